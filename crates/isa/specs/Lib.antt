@@ -1,0 +1,5 @@
+pub mod Operands
+pub mod AppendixA
+pub mod Instructions
+pub mod Table
+pub mod Laws

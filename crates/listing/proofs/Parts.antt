@@ -1,0 +1,172 @@
+-- The groups of a whole program, found one after another.
+-- Assumes nothing.
+use mathlib.Core.Path.{_≡_, refl, ap, sym, subst, _∙_}
+use mathlib.Core.List.{List, [], _∷_, _++_, append-assoc, append-nil}
+use Prim.Native.Nat.{ℕ, zero, suc, _+_, _-_, _%_, _<_, _≤_}
+use native.Mathlib.Nat.{mod-lt}
+use native.Mathlib.Omega.{arith}
+use borrow.Author.Needs.{needs}
+use lib.ListN.{length, take, drop}
+use Rattle.std.proofs.shelf.Lists.{length-drop, nil-from-length, take-all, take-rest}
+use Rattle.std.specs.Joined.{joined}
+use Rattle.std.specs.Of.Vec.{vec-items}
+use Rattle.std.specs.declared.option.Option.{Option}
+use Rattle.std.specs.declared.option.Option.the-variants.{Some, None}
+use Rattle.isa.specs.declared.instructions.Instruction.{Instruction}
+use Rattle.listing.specs.declared.program.Listing.{Listing}
+use Rattle.listing.specs.Groups.{Said, groupAt}
+use Rattle.listing.specs.Program.{
+  Added,
+  Lists,
+  Parts,
+  bytesIn,
+  instructed,
+  instructionsIn,
+  linesOf,
+  next,
+  uninstructed,
+}
+use Rattle.listing.specs.Text.{lineText}
+use Rattle.listing.proofs.Fits.{line-fits}
+use Rattle.listing.proofs.Front.{group-most, group-rest, group-some, group-within}
+
+-- the groups of the code behind the bytes still to pass of a group that has begun
+groupsFrom : ℕ → List ℕ → List Said
+groupsFrom skip [] = []
+groupsFrom zero (op ∷ rest) = groupAt (op ∷ rest) ∷ groupsFrom (length (groupAt (op ∷ rest) .bytes) - 1) rest
+groupsFrom (suc skip) (op ∷ rest) = groupsFrom skip rest
+
+pub groupsOf : List ℕ → List Said
+groupsOf code = groupsFrom 0 code
+
+passed : (skip : ℕ) (code : List ℕ) → groupsFrom skip code ≡ groupsFrom 0 (drop skip code)
+unfolding groupsFrom
+passed zero code = refl
+passed (suc skip) [] = refl
+passed (suc skip) (op ∷ rest) = passed skip rest
+
+drop-cons : (n op : ℕ) (rest : List ℕ) → 0 < n → drop (n - 1) rest ≡ drop n (op ∷ rest)
+drop-cons zero op rest h = absurd (search needs)
+drop-cons (suc n) op rest h = let e : suc n - 1 ≡ n = omega arith in rw e refl
+
+pub groups-none : groupsOf [] ≡ []
+unfolding groupsOf groupsFrom
+groups-none = refl
+
+pub groups-more : (code : List ℕ) → 0 < length code
+    → groupsOf code ≡ groupAt code ∷ groupsOf (drop (length (groupAt code .bytes)) code)
+unfolding groupsOf groupsFrom
+groups-more [] some = absurd (search needs)
+groups-more (op ∷ rest) some =
+    ap (λ (gs : List Said). groupAt (op ∷ rest) ∷ gs)
+    (passed (length (groupAt (op ∷ rest) .bytes) - 1) rest
+    ∙ ap (groupsFrom 0) (drop-cons (length (groupAt (op ∷ rest) .bytes)) op rest (group-some (op ∷ rest) some)))
+
+-- a group takes at least one byte
+pub shorter-by-one : (code : List ℕ) → 0 < length code → length (drop (length (groupAt code .bytes)) code) + 1 ≤ length code
+shorter-by-one code some =
+    let size : 0 < length (groupAt code .bytes) = group-some code some in
+    omega (arith, length-drop (length (groupAt code .bytes)) code)
+
+-- these are the groups of the code
+parts-within : (most : ℕ) (code : List ℕ) → length code ≤ most → Parts code (groupsOf code)
+parts-within most [] h = subst (Parts []) (sym groups-none) refl
+parts-within zero (op ∷ rest) h = absurd (search needs)
+parts-within (suc most) (op ∷ rest) h =
+    let some : 0 < length (op ∷ rest) = search needs in
+    let size : 0 < length (groupAt (op ∷ rest) .bytes) = group-some (op ∷ rest) some in
+    let left : length (drop (length (groupAt (op ∷ rest) .bytes)) (op ∷ rest)) ≤ most =
+    omega (arith, length-drop (length (groupAt (op ∷ rest) .bytes)) (op ∷ rest))
+    in
+    subst (Parts (op ∷ rest)) (sym (groups-more (op ∷ rest) some))
+    (some, refl, parts-within most (drop (length (groupAt (op ∷ rest) .bytes)) (op ∷ rest)) left)
+
+pub parts : (code : List ℕ) → Parts code (groupsOf code)
+parts code = parts-within (length code) code (omega arith)
+
+-- the groups joined are the code
+pub parts-joined : (code : List ℕ) (groups : List Said) → Parts code groups → joined (λ (g : Said). g .bytes) groups ≡ code
+parts-joined code [] none = sym none
+parts-joined code (g ∷ gs) (some, same, rest) =
+    ap (λ (bytes : List ℕ). g .bytes ++ bytes) (parts-joined (drop (length (g .bytes)) code) gs rest)
+    ∙ subst (λ (h : Said). h .bytes ++ drop (length (h .bytes)) code ≡ code) (sym same) (group-rest code)
+
+-- a listing on its way: with the lines and counts of the groups of the rest it is that of the code
+pub record Going (address at : ℕ) (code rest : List ℕ) (listing : Listing) : Type 0 where
+  pub text : vec-items (listing .text) ++ linesOf at (groupsOf rest) ≡ linesOf address (groupsOf code)
+  pub instructions : listing .instructions + instructionsIn (groupsOf rest) ≡ instructionsIn (groupsOf code)
+  pub bytes : listing .«byte_groups» + bytesIn (groupsOf rest) ≡ bytesIn (groupsOf code)
+  pub near : at < 65536
+  pub few : listing .instructions + listing .«byte_groups» + length rest ≤ length code
+
+pub going-none : (address : ℕ) (code : List ℕ) (listing : Listing) → address < 65536 → vec-items (listing .text) ≡ []
+    → listing .instructions ≡ 0 → listing .«byte_groups» ≡ 0 → Going address address code code listing
+going-none address code listing near text instructions bytes = record {
+  text = ap (λ (t : List ℕ). t ++ linesOf address (groupsOf code)) text;
+  instructions = omega arith;
+  bytes = omega arith;
+  near = near;
+  few = omega arith;
+}
+
+-- a group is an instruction or BYTE
+one-of : (r : Option Instruction) → instructed r + uninstructed r ≡ 1
+one-of (Some i) = refl
+one-of None = refl
+
+-- one group more, which stands at the start of the rest
+one-more : (address at : ℕ) (code rest left : List ℕ) (before after : Listing) (g : Said)
+    → Going address at code rest before → Added at g before after → groupsOf rest ≡ g ∷ groupsOf left
+    → take 24 (lineText at g) ≡ lineText at g → length left + 1 ≤ length rest → Going address (next at g) code left after
+one-more address at code rest left before after g going added groups fits shorter = record {
+  text = ap (λ (t : List ℕ). t ++ linesOf (next at g) (groupsOf left))
+      (added .text ∙ ap (λ (line : List ℕ). vec-items (before .text) ++ line) fits)
+      ∙ append-assoc (vec-items (before .text)) (lineText at g) (linesOf (next at g) (groupsOf left))
+      ∙ ap (λ (gs : List Said). vec-items (before .text) ++ linesOf at gs) (sym groups) ∙ going .text;
+  instructions = omega (arith, added .instructions, ap instructionsIn groups, going .instructions);
+  bytes = omega (arith, added .bytes, ap bytesIn groups, going .bytes);
+  near = mod-lt (at + length (g .bytes)) (omega arith);
+  few = omega (arith, added .instructions, added .bytes, one-of (g .instruction), going .few);
+}
+
+-- how long the first group is
+pub record Sized (rest bytes : List ℕ) : Type 0 where
+  pub least : 1 ≤ length bytes
+  pub most : length bytes ≤ 3
+  pub within : length bytes ≤ length rest
+  pub size : length bytes ≡ length (groupAt rest .bytes)
+
+pub sized : (rest bytes : List ℕ) (g : Said) → 0 < length rest → g ≡ groupAt rest → bytes ≡ g .bytes → Sized rest bytes
+sized rest bytes g some same part =
+    let size : length bytes ≡ length (groupAt rest .bytes) = ap length part ∙ ap (λ (h : Said). length (h .bytes)) same in
+    record {
+      least = omega (arith, group-some rest some);
+      most = omega (arith, group-most rest);
+      within = omega (arith, group-within rest);
+      size = size;
+    }
+
+pub going-more : (address at : ℕ) (code rest bytes : List ℕ) (before after : Listing) (g : Said)
+    → Going address at code rest before → 0 < length rest → g ≡ groupAt rest → Sized rest bytes → Added at g before after
+    → Going address ((at + length bytes) % 65536) code (take (length rest - length bytes) (drop (length bytes) rest)) after
+going-more address at code rest bytes before after g going some same sizes added =
+    subst (λ (n : ℕ). Going address ((at + n) % 65536) code (take (length rest - n) (drop n rest)) after) (sym (sizes .size))
+    (subst (λ (left : List ℕ). Going address (next at (groupAt rest)) code left after)
+    (sym (take-rest rest (length (groupAt rest .bytes))))
+    (one-more address at code rest (drop (length (groupAt rest .bytes)) rest) before after (groupAt rest) going
+    (subst (λ (h : Said). Added at h before after) same added) (groups-more rest some)
+    (take-all 24 (lineText at (groupAt rest)) (line-fits at rest)) (shorter-by-one rest some)))
+
+pub going-all : (address at : ℕ) (code rest : List ℕ) (listing : Listing) → Going address at code rest listing
+    → length rest ≡ 0 → Lists address code listing
+going-all address at code rest listing going none =
+    let groups : groupsOf rest ≡ [] = ap groupsOf (nil-from-length rest none) ∙ groups-none in
+    record {
+      groups = groupsOf code;
+      parts = parts code;
+      whole = parts-joined code (groupsOf code) (parts code);
+      text = sym (append-nil (vec-items (listing .text)))
+          ∙ ap (λ (gs : List Said). vec-items (listing .text) ++ linesOf at gs) (sym groups) ∙ going .text;
+      instructions = omega (arith, ap instructionsIn groups, going .instructions);
+      bytes = omega (arith, ap bytesIn groups, going .bytes);
+    }

@@ -1,0 +1,47 @@
+use native.Mathlib.Omega.{arith}
+use borrow.Author.Needs.{needs}
+use lib.ListN.{length, take, drop}
+use Prim.Native.Nat.{_-_}
+use Rattle.std.proofs.shelf.Lists.{length-drop, length-take}
+use Rattle.listing.specs.Groups.{said}
+use Rattle.listing.proofs.Parts.{Sized, going-all, going-more, going-none, sized}
+use Rattle.listing.proofs.program.list_program.Needs as need
+
+-- how long the group of this turn is, before and after the rest is cut
+this-size : (c : need.After-bytes-size) → Sized (c .loop-group .rest .now) (c .bytes-size .result .now)
+this-size c =
+    sized (c .loop-group .rest .now) (c .bytes-size .result .now) (said (c .in-Some .group)) (c .in-Some .ensures tt .0)
+    (c .in-Some .ensures tt .1) (c .bytes-size .ensures)
+
+cut-size : (c : need.After-rest·1) → Sized (c .loop-group .rest .now) (c .bytes-size .result .now)
+cut-size c =
+    sized (c .loop-group .rest .now) (c .bytes-size .result .now) (said (c .in-Some .group)) (c .in-Some .ensures tt .0)
+    (c .in-Some .ensures tt .1) (c .bytes-size .ensures)
+
+pub cast-at : need.cast-at
+cast-at c = omega (arith, c .loop-group .inv .near)
+
+pub add-at : need.add-at
+add-at c = omega (arith, c .loop-group .inv .near, this-size c .most)
+
+pub part-rest-count : need.part-rest-count
+part-rest-count c = this-size c .within
+
+pub part-rest-start : need.part-rest-start
+part-rest-start c = let size = this-size c in search needs
+
+pub loop-group-less : need.loop-group-less
+loop-group-less c =
+    let size = cut-size c in
+    simp (length-take, length-drop) (omega (arith, size .least, size .within))
+
+pub loop-group-again : need.loop-group-again
+loop-group-again c =
+    going-more (c .args .address) (c .loop-group .at) (c .args .code .now) (c .loop-group .rest .now) (c .bytes-size .result .now)
+    (c .loop-group .listing) (c .add .last .self) (said (c .in-Some .group)) (c .loop-group .inv) (c .in-Some .ensures tt .0)
+    (c .in-Some .ensures tt .1) (cut-size c) (c .in-Continue-add .ensures tt)
+
+pub returns : need.returns
+returns c =
+    going-all (c .args .address) (c .loop-group .at) (c .args .code .now) (c .loop-group .rest .now) (c .loop-group .listing)
+    (c .loop-group .inv) (c .in-rest .ensures tt)

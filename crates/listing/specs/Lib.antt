@@ -1,0 +1,4 @@
+pub mod Groups
+pub mod Text
+pub mod Lines
+pub mod Program
