@@ -1,6 +1,9 @@
 // How many bytes and machine cycles each opcode takes: one table, whose rule is proved once over all 256 entries.
 ghost use mathlib.Core.Path.{_≡_};
+ghost use mathlib.Core.List.{map};
 ghost use Prim.Native.Nat.{_≤_};
+ghost use lib.ListN.{getD};
+ghost use Rattle.std.specs.Iters.{counting};
 ghost use Rattle.isa.specs.Table.{packed, entryOf};
 
 // An opcode's bytes, operand included, and its machine cycles, the fetch included.
@@ -32,11 +35,18 @@ const TABLE: [u8; 256] = [
     0x21, 0x21, 0x21, 0x21, 0x21, 0x21, 0x21, 0x21, 0x22, 0x22, 0x22, 0x22, 0x22, 0x22, 0x21, 0x22,
 ];
 
+// What stands in the table at an opcode: the whole table is its rule at 00, 01 and so on to FF.
+fn at_place(opcode: u8) -> u8
+    ensures { λ r. ⌜ r ≡ getD (map packed (counting 0 256)) opcode 0 ⌝ }
+{
+    TABLE[opcode as usize]
+}
+
 // The table's number for an opcode.
 fn packed_entry(opcode: u8) -> u8
     ensures { λ r. ⌜ r ≡ packed opcode ⌝ }
 {
-    TABLE[opcode as usize]
+    at_place(opcode)
 }
 
 impl Entry {

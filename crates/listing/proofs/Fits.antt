@@ -1,4 +1,4 @@
--- No line has more than 24 bytes.
+-- No line has more than 22 bytes, so that a line's 24 hold it whole.
 -- Assumes nothing.
 use mathlib.Core.Path.{_≡_, refl, sym, ap, subst, _∙_}
 use mathlib.Core.Bool.{Bool, true, false, cond}
@@ -201,11 +201,11 @@ length-line : (address : ℕ) (group : Said)
     → length (lineText address group) ≡ 7 + 2 * length (group .bytes) + length (namedText address group)
 length-line address group = simp (length-append, length-hexes) (omega arith)
 
-alone-fits : (address : ℕ) (code : List ℕ) → length (lineText address (alone (take 1 code))) ≤ 24
+alone-fits : (address : ℕ) (code : List ℕ) → length (lineText address (alone (take 1 code))) ≤ 22
 alone-fits address code =
     omega (arith, length-line address (alone (take 1 code)), length-take 1 code)
 
-whole-fits : (address n : ℕ) (i : Instruction) (code : List ℕ) → n ≤ 3 → length (lineText address (whole i (take n code))) ≤ 24
+whole-fits : (address n : ℕ) (i : Instruction) (code : List ℕ) → n ≤ 3 → length (lineText address (whole i (take n code))) ≤ 22
 whole-fits address n i code h =
     omega (
       arith,
@@ -216,16 +216,16 @@ whole-fits address n i code h =
       length-append (appendixA i .name) (operandText (appendixA i .operand) address (take n code)),
     )
 
-group-fits : (address : ℕ) (r : Option Instruction) (code : List ℕ) → length (lineText address (groupBy r code)) ≤ 24
+group-fits : (address : ℕ) (r : Option Instruction) (code : List ℕ) → length (lineText address (groupBy r code)) ≤ 22
 group-fits address None code = alone-fits address code
 group-fits address (Some i) code =
     elim (leb (lengthOf (getD code 0 0)) (length code)) as (λ b.
-    length (lineText address (cond b (whole i (take (lengthOf (getD code 0 0)) code)) (alone (take 1 code)))) ≤ 24) [
+    length (lineText address (cond b (whole i (take (lengthOf (getD code 0 0)) code)) (alone (take 1 code)))) ≤ 22) [
       | true ↦ whole-fits address (lengthOf (getD code 0 0)) i code (instruction-length (getD code 0 0) .1)
       | false ↦ alone-fits address code
     ]
 
-pub line-fits : (address : ℕ) (code : List ℕ) → length (lineText address (groupAt code)) ≤ 24
+pub line-fits : (address : ℕ) (code : List ℕ) → length (lineText address (groupAt code)) ≤ 22
 line-fits address code = group-fits address (decoded (getD code 0 0)) code
 
 -- what is written of the first group is its whole line
@@ -233,9 +233,13 @@ pub whole-line : (address : ℕ) (code text : List ℕ) (group : Said) → 0 < l
     → text ≡ take 24 (lineText address group) → text ≡ lineAt address code
 whole-line address (op ∷ rest) text group some same written =
     written ∙ ap (λ (g : Said). take 24 (lineText address g)) same
-    ∙ take-all 24 (lineText address (groupAt (op ∷ rest))) (line-fits address (op ∷ rest))
+    ∙ take-all 24 (lineText address (groupAt (op ∷ rest))) (omega (arith, line-fits address (op ∷ rest)))
 whole-line address [] text group some same written = absurd (search needs)
 
 pub whole-size : (code : List ℕ) (group : Said) → 0 < length code → group ≡ groupAt code → length (group .bytes) ≡ groupSize code
 whole-size (op ∷ rest) group some same = ap (λ (g : Said). length (g .bytes)) same
 whole-size [] group some same = absurd (search needs)
+
+pub line-at-fits : (address : ℕ) (code : List ℕ) → length (lineAt address code) ≤ 22
+line-at-fits address [] = lit≤ tt
+line-at-fits address (op ∷ rest) = line-fits address (op ∷ rest)

@@ -3,7 +3,6 @@
 use mathlib.Core.Path.{_≡_, refl, ap, sym, subst, _∙_}
 use mathlib.Core.List.{List, [], _∷_, _++_, append-assoc, append-nil}
 use Prim.Native.Nat.{ℕ, zero, suc, _+_, _-_, _%_, _<_, _≤_}
-use native.Mathlib.Nat.{mod-lt}
 use native.Mathlib.Omega.{arith}
 use borrow.Author.Needs.{needs}
 use lib.ListN.{length, take, drop}
@@ -96,16 +95,14 @@ pub record Going (address at : ℕ) (code rest : List ℕ) (listing : Listing) :
   pub text : vec-items (listing .text) ++ linesOf at (groupsOf rest) ≡ linesOf address (groupsOf code)
   pub instructions : listing .instructions + instructionsIn (groupsOf rest) ≡ instructionsIn (groupsOf code)
   pub bytes : listing .«byte_groups» + bytesIn (groupsOf rest) ≡ bytesIn (groupsOf code)
-  pub near : at < 65536
   pub few : listing .instructions + listing .«byte_groups» + length rest ≤ length code
 
-pub going-none : (address : ℕ) (code : List ℕ) (listing : Listing) → address < 65536 → vec-items (listing .text) ≡ []
+pub going-none : (address : ℕ) (code : List ℕ) (listing : Listing) → vec-items (listing .text) ≡ []
     → listing .instructions ≡ 0 → listing .«byte_groups» ≡ 0 → Going address address code code listing
-going-none address code listing near text instructions bytes = record {
+going-none address code listing text instructions bytes = record {
   text = ap (λ (t : List ℕ). t ++ linesOf address (groupsOf code)) text;
   instructions = omega arith;
   bytes = omega arith;
-  near = near;
   few = omega arith;
 }
 
@@ -125,7 +122,6 @@ one-more address at code rest left before after g going added groups fits shorte
       ∙ ap (λ (gs : List Said). vec-items (before .text) ++ linesOf at gs) (sym groups) ∙ going .text;
   instructions = omega (arith, added .instructions, ap instructionsIn groups, going .instructions);
   bytes = omega (arith, added .bytes, ap bytesIn groups, going .bytes);
-  near = mod-lt (at + length (g .bytes)) (omega arith);
   few = omega (arith, added .instructions, added .bytes, one-of (g .instruction), going .few);
 }
 
@@ -146,16 +142,20 @@ sized rest bytes g some same part =
       size = size;
     }
 
-pub going-more : (address at : ℕ) (code rest bytes : List ℕ) (before after : Listing) (g : Said)
+pub going-more : (address at behind : ℕ) (code rest bytes : List ℕ) (before after : Listing) (g : Said)
     → Going address at code rest before → 0 < length rest → g ≡ groupAt rest → Sized rest bytes → Added at g before after
-    → Going address ((at + length bytes) % 65536) code (take (length rest - length bytes) (drop (length bytes) rest)) after
-going-more address at code rest bytes before after g going some same sizes added =
-    subst (λ (n : ℕ). Going address ((at + n) % 65536) code (take (length rest - n) (drop n rest)) after) (sym (sizes .size))
-    (subst (λ (left : List ℕ). Going address (next at (groupAt rest)) code left after)
-    (sym (take-rest rest (length (groupAt rest .bytes))))
+    → behind ≡ (at + length bytes) % 65536
+    → Going address behind code (take (length rest - length bytes) (drop (length bytes) rest)) after
+going-more address at behind code rest bytes before after g going some same sizes added moved =
+    let cut : take (length rest - length bytes) (drop (length bytes) rest) ≡ drop (length (groupAt rest .bytes)) rest =
+    take-rest rest (length bytes) ∙ ap (λ (n : ℕ). drop n rest) (sizes .size)
+    in
+    let address-behind : behind ≡ next at (groupAt rest) = moved ∙ ap (λ (n : ℕ). (at + n) % 65536) (sizes .size) in
+    subst (λ (left : List ℕ). Going address behind code left after) (sym cut)
+    (subst (λ (a : ℕ). Going address a code (drop (length (groupAt rest .bytes)) rest) after) (sym address-behind)
     (one-more address at code rest (drop (length (groupAt rest .bytes)) rest) before after (groupAt rest) going
     (subst (λ (h : Said). Added at h before after) same added) (groups-more rest some)
-    (take-all 24 (lineText at (groupAt rest)) (line-fits at rest)) (shorter-by-one rest some)))
+    (take-all 24 (lineText at (groupAt rest)) (omega (arith, line-fits at rest))) (shorter-by-one rest some)))
 
 pub going-all : (address at : ℕ) (code rest : List ℕ) (listing : Listing) → Going address at code rest listing
     → length rest ≡ 0 → Lists address code listing

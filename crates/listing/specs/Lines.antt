@@ -40,12 +40,18 @@ abbrev pub groupSize : List ℕ → ℕ
 groupSize [] = 0
 groupSize (op ∷ rest) = length (groupAt (op ∷ rest) .bytes)
 
+-- the lengths of line and group
+abbrev pub lengthsAt : ℕ → List ℕ → Listed
+lengthsAt address code = record { line = length (lineAt address code); group = groupSize code }
+
+-- a text over the first bytes of a buffer, whose other bytes stay
+abbrev pub overwritten : List ℕ → List ℕ → List ℕ
+overwritten text buffer = text ++ drop (length text) buffer
+
 -- 4 where the buffer has fewer than 24 bytes, which is tried first
 abbrev pub lineAnswer : ℕ → List ℕ → List ℕ → Answer
-lineAnswer address code buffer =
-    cond (ltb (length buffer) 24) (answer 4 0 0) (answer 0 (length (lineAt address code)) (groupSize code))
+lineAnswer address code buffer = cond (ltb (length buffer) 24) (answer 4 0 0) (answered (Ok (lengthsAt address code)))
 
 -- only the line's own bytes change, and a refusal changes nothing
 abbrev pub lineBuffer : ℕ → List ℕ → List ℕ → List ℕ
-lineBuffer address code buffer =
-    cond (ltb (length buffer) 24) buffer (lineAt address code ++ drop (length (lineAt address code)) buffer)
+lineBuffer address code buffer = cond (ltb (length buffer) 24) buffer (overwritten (lineAt address code) buffer)

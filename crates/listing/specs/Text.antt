@@ -42,13 +42,17 @@ hex4 a = hex2 (a / 256) ++ hex2 (a % 256)
 abbrev pub hexes : List ℕ → List ℕ
 hexes = joined hex2
 
--- an operand, behind a space: a short target is on the page of the branch's own address
+-- a short target is on the page of the branch's own address
+abbrev pub shortTarget : ℕ → ℕ → ℕ
+shortTarget address low = address / 256 * 256 + low
+
+-- an operand, behind a space
 abbrev pub operandText : Operand → ℕ → List ℕ → List ℕ
 operandText Nothing address bytes = []
 operandText (Register r) address bytes = codes " R" ++ hexDigit (digitOf r) ∷ []
 operandText (Port p) address bytes = codes " " ++ hexDigit (numberOf p) ∷ []
 operandText Immediate address bytes = codes " " ++ hex2 (getD bytes 1 0)
-operandText ShortTarget address bytes = codes " " ++ hex4 (address / 256 * 256 + getD bytes 1 0)
+operandText ShortTarget address bytes = codes " " ++ hex4 (shortTarget address (getD bytes 1 0))
 operandText LongTarget address bytes = codes " " ++ hex4 (getD bytes 1 0 * 256 + getD bytes 2 0)
 
 -- a group's name and its operand; BYTE's operand is the byte

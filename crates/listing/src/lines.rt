@@ -1,9 +1,10 @@
 // One line into a caller's buffer.
 ghost use mathlib.Core.Path.{_≡_};
-ghost use mathlib.Core.List.{_++_};
 ghost use Prim.Native.Nat.{_≤_};
-ghost use lib.ListN.{length, drop};
-ghost use Rattle.listing.specs.Lines.{answered, lineAnswer, lineBuffer, numberOf};
+ghost use lib.ListN.{length};
+ghost use Rattle.std.specs.Vec.{made};
+ghost use Rattle.listing.specs.Lines.{answered, lengthsAt, lineAnswer, lineAt, lineBuffer, numberOf, overwritten};
+ghost use Rattle.listing.specs.Text.{textOf};
 use crate::groups::first_group;
 use crate::line::Line;
 
@@ -35,27 +36,38 @@ impl Refusal {
 // Writes the line of the first group into the buffer, whose other bytes stay.
 pub fn list_line(address: u16, code: &[u8], buffer: &mut [u8]) -> Result<Listed, Refusal>
     ensures answer { λ r. ⌜ answered r ≡ lineAnswer address (now (code .entry)) (now (buffer .entry)) ⌝ }
+    ensures bound { λ r. ⌜ made r (λ l. (l .line ≤ 22) × (l .group ≤ 3)) ⌝ }
     ensures buffer { λ _. ⌜ now (buffer .exit) ≡ lineBuffer address (now (code .entry)) (now (buffer .entry)) ⌝ }
 {
     if buffer.len() < 24 {
         return Err(Refusal::ShortBuffer);
     }
-    let Some(group) = first_group(code) else {
-        return Ok(Listed { line: 0, group: 0 });
-    };
-    let line = Line::of(address, group);
-    let text = line.text();
-    put_front(buffer, text);
-    Ok(Listed {
-        line: text.len(),
-        group: group.bytes().len(),
-    })
+    Ok(write_first(address, code, buffer))
 }
 
-// The text over the first bytes of a buffer that has room for it.
-fn put_front(buffer: &mut [u8], text: &[u8])
-    requires { ⌜ length (now text) ≤ length (now buffer) ⌝ }
-    ensures { λ _. ⌜ now (buffer .exit) ≡ now (text .entry) ++ drop (length (now (text .entry))) (now (buffer .entry)) ⌝ }
+// Writes the line of the first group, if there is one, into a buffer that is long enough.
+fn write_first(address: u16, code: &[u8], buffer: &mut [u8]) -> Listed
+    requires { ⌜ 24 ≤ length (now buffer) ⌝ }
+    ensures lengths { λ r. ⌜ r ≡ lengthsAt address (now (code .entry)) ⌝ }
+    ensures bound { λ r. ⌜ (r .line ≤ 22) × (r .group ≤ 3) ⌝ }
+    ensures buffer { λ _. ⌜ now (buffer .exit) ≡ overwritten (lineAt address (now (code .entry))) (now (buffer .entry)) ⌝ }
 {
+    let Some(group) = first_group(code) else {
+        return Listed { line: 0, group: 0 };
+    };
+    let line = Line::of(address, group);
+    put_line(buffer, &line);
+    Listed {
+        line: line.text().len(),
+        group: group.bytes().len(),
+    }
+}
+
+// A line over the first bytes of a buffer that is long enough.
+fn put_line(buffer: &mut [u8], line: &Line)
+    requires { ⌜ 24 ≤ length (now buffer) ⌝ }
+    ensures { λ _. ⌜ now (buffer .exit) ≡ overwritten (textOf (now (line .entry))) (now (buffer .entry)) ⌝ }
+{
+    let text = line.text();
     buffer[0..text.len()].copy_from_slice(text);
 }

@@ -1,6 +1,6 @@
 // The listing of a whole program.
 ghost use mathlib.Core.Path.{_≡_};
-ghost use Prim.Native.Nat.{_+_, _^_, _<_};
+ghost use Prim.Native.Nat.{_+_, _%_, _^_, _<_, _≤_};
 ghost use Rattle.std.specs.Results.{Cases};
 ghost use Rattle.std.specs.Vec.{made};
 ghost use Rattle.listing.specs.Groups.{said};
@@ -19,7 +19,7 @@ pub struct Listing {
     pub byte_groups: usize,
 }
 
-// Lists a program that begins at an address. Addresses wrap past FFFF.
+// Lists a program that begins at an address.
 pub fn list_program(heap: Global, address: u16, code: &[u8]) -> Result<Listing, AllocError>
     ensures { λ r. ⌜ made r (λ l. Lists address (now (code .entry)) l) ⌝ }
 {
@@ -33,10 +33,18 @@ pub fn list_program(heap: Global, address: u16, code: &[u8]) -> Result<Listing, 
     while let Some(group) = first_group(rest) {
         listing.add(at, group)?;
         let size = group.bytes().len();
-        at = ((at as usize + size) % 65536) as u16;
+        at = behind(at, size);
         rest = &rest[size..];
     }
     Ok(listing)
+}
+
+// The address behind some bytes. Addresses wrap past FFFF.
+fn behind(address: u16, size: usize) -> u16
+    requires { ⌜ size ≤ 3 ⌝ }
+    ensures { λ r. ⌜ r ≡ (address + size) % 65536 ⌝ }
+{
+    ((address as usize + size) % 65536) as u16
 }
 
 impl Listing {

@@ -2,9 +2,10 @@
 ghost use mathlib.Core.Path.{_≡_};
 ghost use mathlib.Core.List.{[], _∷_};
 ghost use Prim.Native.Nat.{_<_};
+ghost use lib.Chars.{codes};
 ghost use lib.ListN.{length, getD, take};
 ghost use Rattle.listing.specs.Groups.{said};
-ghost use Rattle.listing.specs.Text.{textOf, Grew, hexDigit, hex2, hex4, hexes, operandText, namedText, lineText};
+ghost use Rattle.listing.specs.Text.{textOf, Grew, hexDigit, hex2, hex4, hexes, operandText, namedText, lineText, shortTarget};
 use crate::groups::Group;
 use crate::line::Line;
 use isa::operands::Operand;
@@ -56,6 +57,20 @@ impl Line {
         }
     }
 
+    // What stands between the parts of a line.
+    fn put_space(&mut self)
+        ensures { λ _. ⌜ Grew (textOf (now (self .entry))) (codes " ") (textOf (now (self .exit))) ⌝ }
+    {
+        self.put(b' ');
+    }
+
+    // The end of a line.
+    fn put_end(&mut self)
+        ensures { λ _. ⌜ Grew (textOf (now (self .entry))) (codes "\n") (textOf (now (self .exit))) ⌝ }
+    {
+        self.put(b'\n');
+    }
+
     // A byte as two digits.
     fn put_byte(&mut self, byte: u8)
         ensures { λ _. ⌜ Grew (textOf (now (self .entry))) (hex2 byte) (textOf (now (self .exit))) ⌝ }
@@ -92,15 +107,15 @@ impl Line {
             ),
             Operand::Port(port) => self.put_text(&[b' ', hex_digit(port.number())]),
             Operand::Immediate => {
-                self.put(b' ');
+                self.put_space();
                 self.put_byte(byte_at(bytes, 1));
             }
             Operand::ShortTarget => {
-                self.put(b' ');
-                self.put_address(address / 256 * 256 + byte_at(bytes, 1) as u16);
+                self.put_space();
+                self.put_address(short_target(address, byte_at(bytes, 1)));
             }
             Operand::LongTarget => {
-                self.put(b' ');
+                self.put_space();
                 self.put_address(byte_at(bytes, 1) as u16 * 256 + byte_at(bytes, 2) as u16);
             }
         }
@@ -127,14 +142,28 @@ impl Line {
         ensures { λ r. ⌜ textOf r ≡ take 24 (lineText address (said (group .entry))) ⌝ }
     {
         let mut line = Line::empty();
-        line.put_address(address);
-        line.put(b' ');
-        line.put_bytes(group.bytes());
-        line.put(b' ');
-        line.put_name(address, group);
-        line.put(b'\n');
+        line.put_group(address, group);
         line
     }
+
+    // Address, bytes, name and operand, parted by single spaces, and the line's end.
+    fn put_group(&mut self, address: u16, group: Group<'_>)
+        ensures { λ _. ⌜ Grew (textOf (now (self .entry))) (lineText address (said (group .entry))) (textOf (now (self .exit))) ⌝ }
+    {
+        self.put_address(address);
+        self.put_space();
+        self.put_bytes(group.bytes());
+        self.put_space();
+        self.put_name(address, group);
+        self.put_end();
+    }
+}
+
+// The target of a short branch: on the page of the branch's own address.
+fn short_target(address: u16, low: u8) -> u16
+    ensures { λ r. ⌜ r ≡ shortTarget address low ⌝ }
+{
+    address / 256 * 256 + low as u16
 }
 
 // The byte at a place, or 0 past the end.

@@ -1,14 +1,12 @@
 use native.Mathlib.Omega.{arith}
 use borrow.Author.Needs.{needs}
-use lib.ListN.{length, take, drop}
-use Prim.Native.Nat.{_-_}
 use Rattle.std.proofs.shelf.Lists.{length-drop, length-take}
 use Rattle.listing.specs.Groups.{said}
-use Rattle.listing.proofs.Parts.{Sized, going-all, going-more, going-none, sized}
+use Rattle.listing.proofs.Parts.{Sized, going-all, going-more, sized}
 use Rattle.listing.proofs.program.list_program.Needs as need
 
 -- how long the group of this turn is, before and after the rest is cut
-this-size : (c : need.After-bytes-size) → Sized (c .loop-group .rest .now) (c .bytes-size .result .now)
+this-size : (c : need.After-behind-at) → Sized (c .loop-group .rest .now) (c .bytes-size .result .now)
 this-size c =
     sized (c .loop-group .rest .now) (c .bytes-size .result .now) (said (c .in-Some .group)) (c .in-Some .ensures tt .0)
     (c .in-Some .ensures tt .1) (c .bytes-size .ensures)
@@ -18,11 +16,10 @@ cut-size c =
     sized (c .loop-group .rest .now) (c .bytes-size .result .now) (said (c .in-Some .group)) (c .in-Some .ensures tt .0)
     (c .in-Some .ensures tt .1) (c .bytes-size .ensures)
 
-pub cast-at : need.cast-at
-cast-at c = omega (arith, c .loop-group .inv .near)
-
-pub add-at : need.add-at
-add-at c = omega (arith, c .loop-group .inv .near, this-size c .most)
+pub behind-at-requires : need.behind-at-requires
+behind-at-requires c κs =
+    sized (c .loop-group .rest .now) (c .bytes-size .result .now) (said (c .in-Some .group)) (c .in-Some .ensures tt .0)
+    (c .in-Some .ensures tt .1) (c .bytes-size .ensures) .most
 
 pub part-rest-count : need.part-rest-count
 part-rest-count c = this-size c .within
@@ -37,9 +34,10 @@ loop-group-less c =
 
 pub loop-group-again : need.loop-group-again
 loop-group-again c =
-    going-more (c .args .address) (c .loop-group .at) (c .args .code .now) (c .loop-group .rest .now) (c .bytes-size .result .now)
-    (c .loop-group .listing) (c .add .last .self) (said (c .in-Some .group)) (c .loop-group .inv) (c .in-Some .ensures tt .0)
-    (c .in-Some .ensures tt .1) (cut-size c) (c .in-Continue-add .ensures tt)
+    going-more (c .args .address) (c .loop-group .at) (c .behind-at .result) (c .args .code .now) (c .loop-group .rest .now)
+    (c .bytes-size .result .now) (c .loop-group .listing) (c .add .last .self) (said (c .in-Some .group))
+    (c .loop-group .inv) (c .in-Some .ensures tt .0) (c .in-Some .ensures tt .1) (cut-size c)
+    (c .in-Continue-add .ensures tt) (c .behind-at .ensures)
 
 pub returns : need.returns
 returns c =
