@@ -33,11 +33,11 @@ fn print(rt: &LibcRuntime, bytes: usize, listing: &Listing) -> Result<(), AnyErr
     let groups = instructions.saturating_add(byte_groups);
     println!(
         rt,
-        "listed: {groups} groups, of which {instructions} are instructions and {byte_groups} are BYTE"
+        "listed: {groups} groups: {instructions} instructions and {byte_groups} BYTE"
     )?;
     println!(
         rt,
-        "joined: the groups are the {bytes} bytes taken, in their order"
+        "joined: the groups, in order, are the {bytes} bytes taken"
     )?;
     Ok(())
 }
