@@ -10,7 +10,11 @@ use std::io::Write;
 mod input;
 
 fn main(rt: LibcRuntime) -> Result<(), AnyError> {
-    rt.report(run(&rt))
+    let result = run(&rt);
+    if let Err(error) = &result {
+        eprintln!(rt, "list: {error}")?;
+    }
+    result
 }
 
 // Reads one byte more than a program may have, so that one too many is seen.

@@ -8,7 +8,11 @@ mod names;
 mod tally;
 
 fn main(rt: LibcRuntime) -> Result<(), AnyError> {
-    rt.report(run(&rt))
+    let result = run(&rt);
+    if let Err(error) = &result {
+        eprintln!(rt, "witness: {error}")?;
+    }
+    result
 }
 
 // One line of input for each opcode, from 00 on: two digits, a space, and the outside name.
