@@ -1,5 +1,5 @@
 # `make run` lists the shipped example; `make test` is the whole gate.
-.PHONY: run test format c list
+.PHONY: run test format c programs
 
 run:
 	@mkdir -p target
@@ -8,7 +8,7 @@ run:
 	@target/bin/list < examples/meal.bin
 
 # `rt ci` comes last: its last line is the verdict.
-test: format c list
+test: format c programs
 	@rt ci
 
 format:
@@ -18,6 +18,6 @@ format:
 c:
 	@tools/c_test.sh
 
-# What the program `list` writes and how it ends.
-list:
-	@tools/list_test.sh
+# What the programs write and how they end.
+programs:
+	@tools/programs_test.sh

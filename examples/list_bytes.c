@@ -57,7 +57,11 @@ int main(void)
     list_first(0, program, 0, STATION_LINE_BUFFER);
     list_first(0, program, 0, STATION_LINE_BUFFER - 1);
     puts("null pointers with length 0:");
-    struct station_line none = station_list_line(0, NULL, 0, NULL, 0);
+    uint8_t dots[STATION_LINE_BUFFER];
+    memset(dots, '.', sizeof dots);
+    struct station_line none = station_list_line(0, NULL, 0, dots, sizeof dots);
+    printf("number=%u line=%u group=%u %.*s\n", none.number, none.line, none.group, (int)sizeof dots, (char *)dots);
+    none = station_list_line(0, NULL, 0, NULL, 0);
     printf("number=%u line=%u group=%u\n", none.number, none.line, none.group);
     return 0;
 }

@@ -4,7 +4,8 @@
  * Link with liblisting.a, which `rt staticlib listing` writes to target/staticlib/.
  * Both functions keep no state, allocate nothing and always return. What they promise is proved of every call
  * whose pointers and lengths are true: `code` points to `code_length` readable bytes, `buffer` to `buffer_length`
- * writable ones, and the two do not overlap. A pointer may be NULL where its length is 0.
+ * writable ones, and the two do not overlap. A NULL pointer with the length 0 is tried by examples/list_bytes.c: it
+ * is taken as no bytes.
  */
 #ifndef STATION_LISTING_H
 #define STATION_LISTING_H
@@ -27,8 +28,8 @@ struct station_entry station_opcode(uint8_t opcode);
 /* What a call of station_list_line answers. */
 struct station_line {
     uint8_t number; /* 0: done; 4: the buffer has fewer than 24 bytes, and nothing was written */
-    uint8_t line;   /* bytes written at the buffer's start, the final 0A included: at most 22 */
-    uint8_t group;  /* bytes of the code that the line stands for, 1 to 3: the next line starts behind them */
+    uint8_t line;   /* bytes written at the buffer's start, the final 0A included: at most 22; 0 if none */
+    uint8_t group;  /* bytes of the code that the line stands for, 1 to 3; 0 if none. The next line starts behind them */
 };
 
 #define STATION_DONE 0

@@ -22,7 +22,7 @@ fn run(rt: &LibcRuntime) -> Result<(), AnyError> {
     let mut bytes = Vec::new(rt.alloc());
     rt.stdin().take(65537).read_to_end(&mut bytes)?;
     let program = program_of(bytes.as_slice())?;
-    let listing = list_program(rt.alloc(), 0, program)?;
+    let listing = list_program(Vec::new(rt.alloc()), 0, program)?;
     print(rt, program.len(), &listing)
 }
 

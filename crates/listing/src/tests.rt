@@ -24,7 +24,7 @@ fn load_immediate() -> Result<(), Fail> {
 
 #[test]
 fn a_cut_long_branch_is_a_byte(rt: LibcRuntime) -> Result<(), Fail> {
-    let listing = list_program(rt.alloc(), 0, &[0xc3, 0x2f])?;
+    let listing = list_program(Vec::new(rt.alloc()), 0, &[0xc3, 0x2f])?;
     check(listing.text.as_slice() == b"0000 C3 BYTE C3\n0001 2F DEC RF\n")?;
     check_eq(listing.instructions, 1)?;
     check_eq(listing.byte_groups, 1)
@@ -32,14 +32,14 @@ fn a_cut_long_branch_is_a_byte(rt: LibcRuntime) -> Result<(), Fail> {
 
 #[test]
 fn addresses_wrap(rt: LibcRuntime) -> Result<(), Fail> {
-    let listing = list_program(rt.alloc(), 0xffff, &[0x30, 0x07, 0xe1])?;
+    let listing = list_program(Vec::new(rt.alloc()), 0xffff, &[0x30, 0x07, 0xe1])?;
     check(listing.text.as_slice() == b"FFFF 3007 BR FF07\n0001 E1 SEX R1\n")
 }
 
 #[test]
 fn no_code_gives_no_line(rt: LibcRuntime) -> Result<(), Fail> {
     listed(0x1234, &[], b"", 0)?;
-    let listing = list_program(rt.alloc(), 0, &[])?;
+    let listing = list_program(Vec::new(rt.alloc()), 0, &[])?;
     check(listing.text.is_empty())
 }
 

@@ -51,3 +51,6 @@ fn print(rt: &LibcRuntime, tally: &Tally) -> Result<(), AnyError> {
     }
     Ok(())
 }
+
+#[cfg(test)]
+mod tests;
