@@ -1,9 +1,7 @@
 -- Every instruction is decoded from its opcode: by the instructions one at a time, and by their registers and ports.
 -- Assumes nothing.
 use mathlib.Core.Path.{_≡_, refl}
-use Prim.Native.Nat.{ℕ, _+_}
 use Rattle.std.specs.declared.option.Option.the-variants.{Some}
-use Rattle.isa.specs.declared.operands.Port.{Port}
 use Rattle.isa.specs.declared.operands.Port.the-variants.{P1, P2, P3, P4, P5, P6, P7}
 use Rattle.isa.specs.declared.operands.Register.{Register}
 use Rattle.isa.specs.declared.operands.Register.the-variants.{R0, R1, R2, R3, R4, R5, R6, R7, R8, R9, RA, RB, RC, RD, RE, RF}

@@ -1,14 +1,13 @@
 -- Appendix A: which instruction each opcode is.
 -- Assumes nothing.
-use Prim.Native.Nat.{ℕ, _+_, _/_, _%_}
+use Prim.Native.Nat.{ℕ, _/_, _%_}
 use mathlib.Core.Bool.{cond}
-use mathlib.Core.List.{List, [], _∷_}
+use mathlib.Core.List.{[], _∷_}
 use lib.Dec.{eqb}
 use lib.ListN.{getD}
 use Rattle.std.specs.declared.option.Option.{Option}
 use Rattle.std.specs.declared.option.Option.the-variants.{Some, None}
 use Rattle.isa.specs.declared.operands.Port.the-variants.{P1, P2, P3, P4, P5, P6, P7}
-use Rattle.isa.specs.declared.operands.Register.{Register}
 use Rattle.isa.specs.declared.instructions.Instruction.{Instruction}
 use Rattle.isa.specs.declared.instructions.Instruction.the-variants.{
   Idl,
@@ -91,7 +90,7 @@ use Rattle.isa.specs.declared.instructions.Instruction.the-variants.{
   Shl,
   Smi,
 }
-use Rattle.isa.specs.Operands.{digitOf, registerOf, numberOf}
+use Rattle.isa.specs.Operands.{registerOf}
 
 -- class 3, by the low digit
 abbrev pub class3 : ℕ → Instruction

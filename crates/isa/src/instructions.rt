@@ -99,7 +99,8 @@ pub fn decode(opcode: u8) -> Option<Instruction>
     by_class(opcode)
 }
 
-// The instruction of an opcode, by its high digit, the class, and then by its low one.
+// The same without the laws, which are shown above once for all the ways through here: by the high digit, the class, and
+// then by the low one.
 fn by_class(opcode: u8) -> Option<Instruction>
     ensures { λ r. ⌜ r ≡ decoded opcode ⌝ }
 {
@@ -111,25 +112,25 @@ fn by_class(opcode: u8) -> Option<Instruction>
             0x0 => Instruction::Ldn(register),
             0x1 => Instruction::Inc(register),
             0x2 => Instruction::Dec(register),
-            0x3 => short_branch(low),
+            0x3 => class_3(low),
             0x4 => Instruction::Lda(register),
             0x5 => Instruction::Str(register),
-            0x6 => return input_output(low),
-            0x7 => control(low),
+            0x6 => return class_6(low),
+            0x7 => class_7(low),
             0x8 => Instruction::Glo(register),
             0x9 => Instruction::Ghi(register),
             0xa => Instruction::Plo(register),
             0xb => Instruction::Phi(register),
-            0xc => long_branch(low),
+            0xc => class_c(low),
             0xd => Instruction::Sep(register),
             0xe => Instruction::Sex(register),
-            _ => arithmetic(low),
+            _ => class_f(low),
         },
     )
 }
 
 // Class 3, by its low digit.
-fn short_branch(low: u8) -> Instruction
+fn class_3(low: u8) -> Instruction
     requires { ⌜ low < 16 ⌝ }
     ensures { λ r. ⌜ r ≡ class3 low ⌝ }
 {
@@ -154,7 +155,7 @@ fn short_branch(low: u8) -> Instruction
 }
 
 // Class 6, by its low digit.
-fn input_output(low: u8) -> Option<Instruction>
+fn class_6(low: u8) -> Option<Instruction>
     requires { ⌜ low < 16 ⌝ }
     ensures { λ r. ⌜ r ≡ class6 low ⌝ }
 {
@@ -181,7 +182,7 @@ fn input_output(low: u8) -> Option<Instruction>
 }
 
 // Class 7, by its low digit.
-fn control(low: u8) -> Instruction
+fn class_7(low: u8) -> Instruction
     requires { ⌜ low < 16 ⌝ }
     ensures { λ r. ⌜ r ≡ class7 low ⌝ }
 {
@@ -206,7 +207,7 @@ fn control(low: u8) -> Instruction
 }
 
 // Class C, by its low digit.
-fn long_branch(low: u8) -> Instruction
+fn class_c(low: u8) -> Instruction
     requires { ⌜ low < 16 ⌝ }
     ensures { λ r. ⌜ r ≡ classC low ⌝ }
 {
@@ -231,7 +232,7 @@ fn long_branch(low: u8) -> Instruction
 }
 
 // Class F, by its low digit.
-fn arithmetic(low: u8) -> Instruction
+fn class_f(low: u8) -> Instruction
     requires { ⌜ low < 16 ⌝ }
     ensures { λ r. ⌜ r ≡ classF low ⌝ }
 {

@@ -14,7 +14,7 @@ impl Instruction {
         self.coded()
     }
 
-    // The opcode's column of Appendix A.
+    // The opcode's column of Appendix A; the law above is shown once for all its rows.
     #[rattlefmt::skip]
     fn coded(self) -> u8
         ensures { λ r. ⌜ r ≡ appendixA self .opcode ⌝ }

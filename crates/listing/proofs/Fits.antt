@@ -1,12 +1,11 @@
 -- No line has more than 22 bytes, so that a line's 24 hold it whole.
 -- Assumes nothing.
-use mathlib.Core.Path.{_≡_, refl, sym, ap, subst, _∙_}
-use mathlib.Core.Bool.{Bool, true, false, cond}
-use mathlib.Core.List.{List, [], _∷_, _++_}
-use Prim.Native.Nat.{ℕ, zero, suc, _+_, _*_, _<_, _≤_}
+use mathlib.Core.Path.{_≡_, refl, ap, _∙_}
+use mathlib.Core.Bool.{true, false, cond}
+use mathlib.Core.List.{List, [], _∷_}
+use Prim.Native.Nat.{ℕ, _+_, _*_, _<_, _≤_}
 use native.Mathlib.Omega.{arith}
 use borrow.Author.Needs.{needs}
-use lib.Chars.{codes}
 use lib.Dec.{leb, lit≤}
 use lib.ListN.{length, getD, take}
 use Rattle.std.proofs.shelf.Lists.{length-append, length-take, take-all}
@@ -102,7 +101,7 @@ use Rattle.isa.specs.Table.{lengthOf}
 use Rattle.listing.specs.Groups.{Said, alone, groupAt, groupBy, whole}
 use Rattle.listing.proofs.Front.{instruction-length}
 use Rattle.listing.specs.Lines.{groupSize, lineAt}
-use Rattle.listing.specs.Text.{hex2, hex4, hexes, lineText, namedText, operandText}
+use Rattle.listing.specs.Text.{hexes, lineText, namedText, operandText}
 
 name-fits : (i : Instruction) → length (appendixA i .name) ≤ 4
 name-fits Idl = lit≤ tt

@@ -1,6 +1,6 @@
 -- The first group is a front of the code, of one to three bytes.
 -- Assumes nothing.
-use mathlib.Core.Path.{_≡_, refl, ap, sym, subst, _∙_}
+use mathlib.Core.Path.{_≡_, refl, ap, sym, subst}
 use mathlib.Core.Bool.{true, false, cond}
 use mathlib.Core.List.{List, [], _∷_, _++_}
 use Prim.Native.Nat.{ℕ, zero, suc, _<_, _≤_}
@@ -13,7 +13,7 @@ use Rattle.std.specs.declared.option.Option.the-variants.{Some, None}
 use Rattle.isa.specs.declared.instructions.Instruction.{Instruction}
 use Rattle.isa.specs.Instructions.{decoded}
 use Rattle.isa.specs.Table.{lengthOf, oneMore, twoMore}
-use Rattle.listing.specs.Groups.{Said, alone, groupAt, groupBy, whole}
+use Rattle.listing.specs.Groups.{alone, groupAt, groupBy, whole}
 
 pub instruction-length : (op : ℕ) → (1 ≤ lengthOf op) × (lengthOf op ≤ 3)
 instruction-length op =

@@ -1,7 +1,7 @@
 -- The name and the operand of a group, by whether it has an instruction.
 -- Assumes nothing.
 use mathlib.Core.Path.{_≡_, ap}
-use mathlib.Core.List.{List, _++_}
+use mathlib.Core.List.{_++_}
 use Prim.Native.Nat.{ℕ}
 use lib.Chars.{codes}
 use lib.ListN.{getD}

@@ -1,5 +1,5 @@
 -- The law of the opcode, at the instruction.
-use mathlib.Core.Path.{_≡_, subst, sym}
+use mathlib.Core.Path.{subst, sym}
 use Prim.Native.Nat.{ℕ}
 use Rattle.isa.specs.Laws.{DecodesTo}
 use Rattle.isa.proofs.Coding.{decodes-to}
