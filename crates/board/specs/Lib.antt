@@ -1,0 +1,3 @@
+pub mod Signals
+pub mod Canteen
+pub mod Script
