@@ -37,7 +37,9 @@ impl CycleName {
 #[derive(Clone, Copy)]
 pub struct Announcement {
     pub name: CycleName,
+    // the N lines
     pub lines: u8,
+    // Q before the cycle
     pub q: bool,
 }
 
@@ -87,5 +89,6 @@ pub struct Record {
     pub direction: Direction,
     pub address: u16,
     pub byte: u8,
+    // Q after the cycle
     pub q: bool,
 }

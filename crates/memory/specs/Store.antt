@@ -30,6 +30,13 @@ ramOf bytes = record { byte = byteAt bytes; keeps = λ a. ltb a (length bytes) }
 abbrev pub fixedOf : List ℕ → Store
 fixedOf bytes = record { byte = byteAt bytes; keeps = λ a. false }
 
+-- how a memory is built, which no write changes: how many bytes are kept; which bytes are fixed; two memories and their
+-- boundary
+pub data Form : Type 0 where
+  kept : ℕ → Form
+  fixed : List ℕ → Form
+  parts : ℕ → Form → Form → Form
+
 -- two stores as one: addresses below the boundary are the lower one's, the others, less the boundary, the upper one's
 abbrev pub joinedOf : ℕ → Store → Store → Store
 joinedOf boundary lower upper = record {

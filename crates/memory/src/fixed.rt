@@ -2,7 +2,7 @@
 ghost use mathlib.Core.Path.{_≡_};
 ghost use Rattle.std.specs.Of.Vec.{vec-items};
 ghost use Rattle.memory.specs.Rows.{fixedBytes};
-ghost use Rattle.memory.specs.Store.{fixedOf};
+ghost use Rattle.memory.specs.Store.{fixed, fixedOf};
 use crate::meaning::Memory;
 use crate::row::Row;
 
@@ -36,6 +36,8 @@ impl Fixed {
 
 pub impl Memory for Fixed as FixedMemory {
     ghost store = { λ m. fixedOf (fixedBytes m) };
+
+    ghost form = { λ m. fixed (fixedBytes m) };
 
     fn read(&self, address: u16) -> u8
         ensures { λ r. ⌜ r ≡ fixedOf (fixedBytes (now (self .entry))) .byte address ⌝ }

@@ -1,6 +1,6 @@
 // Two memories as one.
 ghost use mathlib.Core.Path.{_≡_};
-ghost use Rattle.memory.specs.Store.{joinedOf};
+ghost use Rattle.memory.specs.Store.{joinedOf, parts};
 use crate::meaning::Memory;
 
 // The lower memory has the addresses below the boundary; the upper one, counted from 0000, has the others.
@@ -37,6 +37,8 @@ impl<L, U> Joined<L, U> {
 
 pub impl<L: Memory, U: Memory> Memory for Joined<L, U> as JoinedMemory {
     ghost store = { λ m. joinedOf (m .boundary) (L·Memory .store (m .lower)) (U·Memory .store (m .upper)) };
+
+    ghost form = { λ m. parts (m .boundary) (L·Memory .form (m .lower)) (U·Memory .form (m .upper)) };
 
     fn read(&self, address: u16) -> u8 {
         if address < self.boundary {

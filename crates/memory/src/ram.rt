@@ -1,8 +1,9 @@
 // RAM: bytes that are kept.
 ghost use mathlib.Core.Path.{_≡_};
+ghost use lib.ListN.{length};
 ghost use Rattle.std.specs.Of.Vec.{vec-items};
 ghost use Rattle.memory.specs.Rows.{ramBytes};
-ghost use Rattle.memory.specs.Store.{put, ramOf};
+ghost use Rattle.memory.specs.Store.{kept, put, ramOf};
 use crate::meaning::Memory;
 use crate::row::Row;
 
@@ -37,6 +38,8 @@ impl Ram {
 pub impl Memory for Ram as RamMemory {
     ghost store = { λ m. ramOf (ramBytes m) };
 
+    ghost form = { λ m. kept (length (ramBytes m)) };
+
     fn read(&self, address: u16) -> u8
         ensures { λ r. ⌜ r ≡ ramOf (ramBytes (now (self .entry))) .byte address ⌝ }
     {
@@ -44,7 +47,8 @@ pub impl Memory for Ram as RamMemory {
     }
 
     fn write(&mut self, address: u16, byte: u8)
-        ensures { λ _. ⌜ ramOf (ramBytes (now (self .exit))) ≡ put (ramOf (ramBytes (now (self .entry)))) address byte ⌝ }
+        ensures after { λ _. ⌜ ramOf (ramBytes (now (self .exit))) ≡ put (ramOf (ramBytes (now (self .entry)))) address byte ⌝ }
+        ensures built { λ _. ⌜ length (ramBytes (now (self .exit))) ≡ length (ramBytes (now (self .entry))) ⌝ }
     {
         if let Some(kept) = self.0.bytes.get_mut(usize::from(address)) {
             *kept = byte;
