@@ -1,4 +1,6 @@
 // Follows a card write from OUT 2 to the end of the delay, on the 5 ms and on the 40 ms board.
+#![tactic(auto)]
+
 use crate::cycles::{idle, inp, out};
 use board::canteen::{Canteen, Delay};
 use board::meaning::Board;

@@ -2,6 +2,8 @@
 //
 // Three tables over the instructions: `conditions` says which branches and skips are taken, `access` which byte an execute
 // reads or writes, and `effects` what it does to the registers.
+#![tactic(auto)]
+
 pub mod access;
 pub mod conditions;
 pub mod effects;

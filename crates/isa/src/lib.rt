@@ -2,6 +2,8 @@
 //
 // `table` holds each opcode's length and machine cycles, `operands` the registers, ports and forms of operand,
 // `instructions` the one decoding of an opcode, and `names` what Appendix A of RCA's manual calls each instruction.
+#![tactic(auto)]
+
 pub mod instructions;
 pub mod names;
 pub mod operands;

@@ -1,4 +1,6 @@
 // Lists the program on standard input.
+#![tactic(auto)]
+
 use crate::input::program_of;
 use listing::program::{Listing, list_program};
 use std::io::{Read, Write};

@@ -2,6 +2,8 @@
 //
 // `groups` parts the bytes into groups, `line` and `text` write the line of one, `lines` puts it into a caller's buffer,
 // `program` lists a whole program, and `c` has the functions for the terminal's C firmware.
+#![tactic(auto)]
+
 pub mod c;
 pub mod groups;
 pub mod line;

@@ -2,6 +2,8 @@
 //
 // `meaning` has the trait that says what a memory is. `ram` and `fixed` are the memories made of bytes, over a `row` of
 // them, and `joined` is two memories as one.
+#![tactic(auto)]
+
 pub mod fixed;
 pub mod joined;
 pub mod meaning;

@@ -18,14 +18,14 @@ impl Processor {
         memory: &mut M,
         board: &mut B,
     ) -> Option<Record>
-        ensures after { machine self.new (store memory.new) (position board.new) ≡ stepped shown moved mode (machine self.old (store memory.old) (position board.old)) }
-        ensures told { result ≡ told_in shown (machine self.old (store memory.old) (position board.old)) }
-        ensures built { form memory.new ≡ form memory.old }
+        ensures after { machine self.new (M.store memory.new) (B.position board.new) ≡ stepped B.shown B.moved mode (machine self.old (M.store memory.old) (B.position board.old)) }
+        ensures told { result ≡ told_in B.shown (machine self.old (M.store memory.old) (B.position board.old)) }
+        ensures built { M.form memory.new ≡ M.form memory.old }
         ensures paced { Paced self.old self.new }
         ensures opcode { KeepsOpcode self.old self.new }
         ensures carry { KeepsDf self.old self.new }
         ensures returning { StepsOldX self.old self.new }
-        ensures input { LoadsBus shown (position board.old) self.old self.new }
+        ensures input { LoadsBus B.shown (B.position board.old) self.old self.new }
         ensures interrupts { InterruptsIn mode self.old self.new }
     {
         self.registers.sized();
@@ -39,9 +39,9 @@ impl Processor {
         memory: &mut M,
         board: &mut B,
     ) -> Option<Record>
-        ensures after { machine self.new (store memory.new) (position board.new) ≡ stepped shown moved mode (machine self.old (store memory.old) (position board.old)) }
-        ensures told { result ≡ told_in shown (machine self.old (store memory.old) (position board.old)) }
-        ensures built { form memory.new ≡ form memory.old }
+        ensures after { machine self.new (M.store memory.new) (B.position board.new) ≡ stepped B.shown B.moved mode (machine self.old (M.store memory.old) (B.position board.old)) }
+        ensures told { result ≡ told_in B.shown (machine self.old (M.store memory.old) (B.position board.old)) }
+        ensures built { M.form memory.new ≡ M.form memory.old }
     {
         let cycle = self.due()?;
         Some(self.turn(cycle, mode, memory, board))
@@ -56,9 +56,9 @@ impl Processor {
         memory: &mut M,
         board: &mut B,
     ) -> Record
-        ensures after { machine self.new (store memory.new) (position board.new) ≡ turned shown moved mode cycle (machine self.old (store memory.old) (position board.old)) }
-        ensures told { result ≡ record_of shown cycle (machine self.old (store memory.old) (position board.old)) }
-        ensures built { form memory.new ≡ form memory.old }
+        ensures after { machine self.new (M.store memory.new) (B.position board.new) ≡ turned B.shown B.moved mode cycle (machine self.old (M.store memory.old) (B.position board.old)) }
+        ensures told { result ≡ record_of B.shown cycle (machine self.old (M.store memory.old) (B.position board.old)) }
+        ensures built { M.form memory.new ≡ M.form memory.old }
     {
         let announcement = cycle.announce(&self.registers);
         let show = board.show(announcement);

@@ -16,9 +16,9 @@ pub struct Transfer {
 
 // Makes an access at a memory, and says what was transferred.
 pub fn touch<M: Memory>(memory: &mut M, access: Access) -> Transfer
-    ensures transfer { result ≡ transfer_of access (store memory.old) }
-    ensures after { store memory.new ≡ store_after access (store memory.old) }
-    ensures built { form memory.new ≡ form memory.old }
+    ensures transfer { result ≡ transfer_of access (M.store memory.old) }
+    ensures after { M.store memory.new ≡ store_after access (M.store memory.old) }
+    ensures built { M.form memory.new ≡ M.form memory.old }
 {
     match access {
         Access::Reads(address) => Transfer {

@@ -1,4 +1,6 @@
 // Holds the core to what another emulator does. Today: the names of the listing, against those of an outside disassembler.
+#![tactic(auto)]
+
 use crate::names::Outside;
 use crate::tally::{Tally, Verdict};
 use anyhow::anyhow;

@@ -6,7 +6,7 @@ use Rattle.isa.proofs.instructions.decode.Goals as goal
 
 pub returns : goal.returns
 returns c = record {
-  value = c.by-class.ensures;
-  row = subst (InAppendixA c.args.opcode) (sym c.by-class.ensures) (in_appendix_a c.args.opcode (omega arith));
-  length = subst (AsLongAsTable c.args.opcode) (sym c.by-class.ensures) (as_long_as_table c.args.opcode (omega arith));
+  value = c.by_class.ensures;
+  row = subst (InAppendixA c.args.opcode) (sym c.by_class.ensures) (in_appendix_a c.args.opcode (omega arith));
+  length = subst (AsLongAsTable c.args.opcode) (sym c.by_class.ensures) (as_long_as_table c.args.opcode (omega arith));
 }

@@ -6,5 +6,5 @@ use Rattle.isa.proofs.table.packed_entry.Goals as goal
 
 pub returns : goal.returns
 returns c =
-    c.at-place.ensures
+    c.at_place.ensures
     ∙ get_or-map-range_with_len packed 0 256 c.args.opcode c.args.opcode 0 (omega arith) (omega arith)

@@ -26,5 +26,5 @@ returns c =
     record {
       lengths = cc;
       bound = (omega (arith, length-of, line_at_fits c.args.address c.args.code.now), sizes.most);
-      buffer = c.put-line.ensures ∙ ap (λ (text : List ℕ). overwritten text c.args.buffer.now) line;
+      buffer = c.put_line.ensures ∙ ap (λ (text : List ℕ). overwritten text c.args.buffer.now) line;
     }

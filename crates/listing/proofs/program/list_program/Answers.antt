@@ -5,14 +5,15 @@ use Rattle.listing.specs.Groups.{said}
 use Rattle.listing.specs.Program.{Lists, NoRoom}
 use Rattle.listing.proofs.Parts.{Sized, going_all, going_full, going_more, sized}
 use Rattle.listing.proofs.program.list_program.Goals as goal
+use Rattle.listing.proofs.program.list_program.Goals.{After-behind-at, After-rest-1}
 
 -- how long the group of this turn is, before and after the rest is cut
-this_size : (c : goal.After-behind-at) → Sized c.loop-group.rest.now c.bytes-size.result.now
+this_size : (c : After-behind-at) → Sized c.loop-group.rest.now c.bytes-size.result.now
 this_size c =
     sized c.loop-group.rest.now c.bytes-size.result.now (said c.in-Some.group) c.in-Some.ensures.0
     c.in-Some.ensures.1 c.bytes-size.ensures
 
-cut_size : (c : goal.After-rest·1) → Sized c.loop-group.rest.now c.bytes-size.result.now
+cut_size : (c : After-rest-1) → Sized c.loop-group.rest.now c.bytes-size.result.now
 cut_size c =
     sized c.loop-group.rest.now c.bytes-size.result.now (said c.in-Some.group) c.in-Some.ensures.0
     c.in-Some.ensures.1 c.bytes-size.ensures
@@ -22,11 +23,11 @@ behind-at-requires c =
     (sized c.loop-group.rest.now c.bytes-size.result.now (said c.in-Some.group) c.in-Some.ensures.0
     c.in-Some.ensures.1 c.bytes-size.ensures).most
 
-pub slice-bounds-rest-count : goal.slice-bounds-rest-count
-slice-bounds-rest-count c = (this_size c).within
+pub slice_bounds-rest-count : goal.slice_bounds-rest-count
+slice_bounds-rest-count c = (this_size c).within
 
-pub slice-bounds-rest-start : goal.slice-bounds-rest-start
-slice-bounds-rest-start c = let size = this_size c in search rules
+pub slice_bounds-rest-start : goal.slice_bounds-rest-start
+slice_bounds-rest-start c = let size = this_size c in search rules
 
 pub loop-group-smaller : goal.loop-group-smaller
 loop-group-smaller c =
@@ -38,20 +39,20 @@ loop-group-preserved c =
     going_more (vec_items c.args.text) (vec_capacity c.args.text) c.args.address c.loop-group.at c.behind-at.result c.args.code.now c.loop-group.rest.now
     c.bytes-size.result.now c.loop-group.listing c.add.new.self (said c.in-Some.group)
     c.loop-group.invariant c.in-Some.ensures.0 c.in-Some.ensures.1 (cut_size c)
-    c.in-ok-add.ensures c.behind-at.ensures
+    c.in_ok-add.ensures c.behind-at.ensures
 
 pub returns : goal.returns
 returns c =
     going_all (vec_items c.args.text) (vec_capacity c.args.text) c.args.address c.loop-group.at c.args.code.now c.loop-group.rest.now c.loop-group.listing
-    c.loop-group.invariant c.in-default.ensures
+    c.loop-group.invariant c.in_default.ensures
 
-pub returns-in-err-add : goal.returns-in-err-add
-returns-in-err-add c =
-    MatchResult-from_err c.from-residual.result
+pub returns-in_err-add : goal.returns-in_err-add
+returns-in_err-add c =
+    MatchResult-from_err c.from_residual.result
     (λ l. Lists (vec_items c.args.text) c.args.address c.args.code.now l)
     (λ _. NoRoom (vec_capacity c.args.text) (vec_len c.args.text) c.args.address c.args.code.now)
-    c.from-residual.ensures.0
+    c.from_residual.ensures.0
     (λ _. going_full (vec_items c.args.text) (vec_capacity c.args.text) (vec_len c.args.text) c.args.address
     c.loop-group.at c.args.code.now c.loop-group.rest.now c.loop-group.listing (said c.in-Some.group)
     c.loop-group.invariant c.args.text.ok.0 c.in-Some.ensures.0 c.in-Some.ensures.1
-    c.in-err-add.ensures)
+    c.in_err-add.ensures)

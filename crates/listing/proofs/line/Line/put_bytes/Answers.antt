@@ -8,7 +8,7 @@ loop-byte-init c = grew_none c.args.self.now.bytes c.args.self.now.length c.args
 
 pub loop-byte-preserved : goal.loop-byte-preserved
 loop-byte-preserved c =
-    also_more hex2 c.args.bytes.now c.loop-byte.byte-index (omega arith) c.loop-byte.invariant c.put-byte.ensures
+    also_more hex2 c.args.bytes.now c.loop-byte.byte-index (omega arith) c.loop-byte.invariant c.put_byte.ensures
 
 pub returns : goal.returns
 returns c = all_pieces hex2 c.args.bytes.now c.loop-byte.byte-index (omega arith) c.loop-byte.invariant

@@ -3,14 +3,14 @@ use Rattle.listing.proofs.line.Line.put_operand.Goals as goal
 
 pub returns-in-Immediate : goal.returns-in-Immediate
 returns-in-Immediate c =
-    simp (c.in-Immediate.is, ← c.byte-at.ensures) (also c.put-space.ensures c.put-byte.ensures)
+    simp (c.in-Immediate.is, ← c.byte_at.ensures) (also c.put_space.ensures c.put_byte.ensures)
 
 pub returns-in-ShortTarget : goal.returns-in-ShortTarget
 returns-in-ShortTarget c =
-    simp (c.in-ShortTarget.is, ← c.byte-at-in-ShortTarget.ensures, ← c.short-target.ensures)
-    (also c.put-space-in-ShortTarget.ensures c.put-address.ensures)
+    simp (c.in-ShortTarget.is, ← c.byte_at-in-ShortTarget.ensures, ← c.short_target.ensures)
+    (also c.put_space-in-ShortTarget.ensures c.put_address.ensures)
 
 pub returns-in-LongTarget : goal.returns-in-LongTarget
 returns-in-LongTarget c =
-    simp (c.in-LongTarget.is, ← c.byte-at-in-LongTarget.ensures, ← c.byte-at-in-LongTarget-2.ensures)
-    (also c.put-space-in-LongTarget.ensures c.put-address-in-LongTarget.ensures)
+    simp (c.in-LongTarget.is, ← c.byte_at-in-LongTarget.ensures, ← c.byte_at-in-LongTarget-2.ensures)
+    (also c.put_space-in-LongTarget.ensures c.put_address-in-LongTarget.ensures)
