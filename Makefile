@@ -1,18 +1,17 @@
 # `make run` lists the shipped example; `make test` is the whole gate.
-.PHONY: run test format c programs
+.PHONY: run test ci c programs
 
 run:
-	@mkdir -p target
-	@rt check list > target/run.log 2>&1 || { cat target/run.log; exit 1; }
+	@tools/build.sh list
 	@echo 'Proved and built: target/bin/list. Its listing of examples/meal.bin:'
 	@target/bin/list < examples/meal.bin
 
 # `rt ci` comes last: its last line is the verdict.
-test: format c programs
-	@rt ci
+test: c programs ci
 
-format:
-	@rt fmt --check
+# Each crate, its tests and must-fail edits, and the programs against their stored output.
+ci:
+	@tools/ci.sh
 
 # The C caller over the static library.
 c:

@@ -1,7 +1,7 @@
 /*
  * The listing of CDP1802 code, for the terminal's firmware.
  *
- * Link with liblisting.a, which `rt staticlib listing` writes to target/staticlib/.
+ * Link with liblisting.a, which `tools/staticlib.sh` writes to target/staticlib/.
  * Both functions keep no state, allocate nothing and always return. What they promise is proved of every call
  * whose pointers and lengths are true: `code` points to `code_length` readable bytes, `buffer` to `buffer_length`
  * writable ones, and the two do not overlap. A NULL pointer with the length 0 is tried by examples/list_bytes.c: it

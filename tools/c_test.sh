@@ -4,8 +4,7 @@
 set -euo pipefail
 cd "$(dirname "$0")/.."
 command -v valgrind > /dev/null || { echo 'c_test: valgrind is wanted: install the package valgrind' >&2; exit 1; }
-mkdir -p target
-rt staticlib listing > target/staticlib.log 2>&1 || { cat target/staticlib.log >&2; exit 1; }
+tools/staticlib.sh
 out=target/c
 mkdir -p "$out"
 flags=(-std=c11 -Wall -Wextra -Werror -O1 -g -Iinclude examples/list_bytes.c target/staticlib/liblisting.a)

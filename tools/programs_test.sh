@@ -3,8 +3,7 @@
 # many as there are addresses, and on one more; and that `witness` fails on a name that differs and on a missing opcode.
 set -euo pipefail
 cd "$(dirname "$0")/.."
-mkdir -p target
-rt check list witness > target/programs.log 2>&1 || { cat target/programs.log >&2; exit 1; }
+tools/build.sh list witness
 out=target/programs_test
 mkdir -p "$out"
 fail() { echo "programs_test: $1" >&2; exit 1; }

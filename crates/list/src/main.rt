@@ -4,15 +4,17 @@
 use crate::input::program_of;
 use listing::program::{Listing, list_program};
 use std::io::{Read, Write};
+use std::process::ExitCode;
 
 mod input;
 
-fn main(rt: HostRuntime) -> anyhow::Result<()> {
-    let result = run(&rt);
-    if let Err(error) = &result {
-        eprintln!(rt; "list: {error}")?;
-    }
-    result
+// The error is told here, under the program's name, and not by the runtime once more.
+fn main(rt: HostRuntime) -> ExitCode {
+    let Err(error) = run(&rt) else {
+        return ExitCode::SUCCESS;
+    };
+    let _told = eprintln!(rt; "list: {error}");
+    ExitCode::FAILURE
 }
 
 // Reads one byte more than a program may have, so that one too many is seen.

@@ -1,4 +1,4 @@
-// The functions for the terminal's C firmware; include/station_listing.h says the same to a C programmer.
+// The functions for the terminal's C firmware. The crate `listing_c` exports them under their C names.
 ghost use Rattle.std.specs.Prelude.{◌≡◌};
 ghost use Rattle.isa.specs.Table.{entry_of};
 ghost use Rattle.listing.specs.Lines.{line_answer, line_buffer};
@@ -17,16 +17,14 @@ pub struct LineAnswer {
 }
 
 // The table's entry for an opcode.
-#[unsafe(no_mangle)]
-pub extern "C" fn station_opcode(opcode: u8) -> Entry
+pub fn station_opcode(opcode: u8) -> Entry
     ensures { result ≡ entry_of opcode }
 {
     Entry::of(opcode)
 }
 
 // Writes the line of the first group into the buffer, whose other bytes stay.
-#[unsafe(no_mangle)]
-pub extern "C" fn station_list_line(address: u16, code: &[u8], buffer: &mut [u8]) -> LineAnswer
+pub fn station_list_line(address: u16, code: &[u8], buffer: &mut [u8]) -> LineAnswer
     ensures answer { told result ≡ line_answer address code.now buffer.old }
     ensures buffer { buffer.new ≡ line_buffer address code.now buffer.old }
 {

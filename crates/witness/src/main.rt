@@ -4,16 +4,18 @@
 use crate::names::Outside;
 use crate::tally::{Tally, Verdict};
 use anyhow::anyhow;
+use std::process::ExitCode;
 
 mod names;
 mod tally;
 
-fn main(rt: HostRuntime) -> anyhow::Result<()> {
-    let result = run(&rt);
-    if let Err(error) = &result {
-        eprintln!(rt; "witness: {error}")?;
-    }
-    result
+// The error is told here, under the program's name, and not by the runtime once more.
+fn main(rt: HostRuntime) -> ExitCode {
+    let Err(error) = run(&rt) else {
+        return ExitCode::SUCCESS;
+    };
+    let _told = eprintln!(rt; "witness: {error}");
+    ExitCode::FAILURE
 }
 
 // One line of input for each opcode, from 00 on: two digits, a space, and the outside name.
