@@ -1,6 +1,6 @@
 -- The signals between station and board.
 -- Assumes nothing.
-use Rattle.std.specs.Prelude.{ℕ, Bool, false}
+use Rattle.std.specs.Prelude.{ℕ, false}
 use Rattle.board.specs.declared.signals.CycleName.{CycleName}
 use Rattle.board.specs.declared.signals.CycleName.TheVariants.{
   Initialise,

@@ -32,7 +32,7 @@ fn load_immediate(rt: HostRuntime) -> Result<(), Fail> {
 #[test]
 fn a_cut_long_branch_is_a_byte(rt: HostRuntime) -> Result<(), Fail> {
     let listing = list_program(Vec::new(rt.alloc()), 0, &[0xc3, 0x2f])?;
-    assert!(rt; listing.text.as_slice() == b"0000 C3 BYTE C3\n0001 2F DEC RF\n");
+    assert!(rt; listing.text.as_slice() == b"0000 C3 BYTE C3\n0001 2F DEC RF\n".as_slice());
     assert_eq!(rt; listing.instructions, 1);
     assert_eq!(rt; listing.byte_groups, 1);
     Ok(())
@@ -41,7 +41,7 @@ fn a_cut_long_branch_is_a_byte(rt: HostRuntime) -> Result<(), Fail> {
 #[test]
 fn addresses_wrap(rt: HostRuntime) -> Result<(), Fail> {
     let listing = list_program(Vec::new(rt.alloc()), 0xffff, &[0x30, 0x07, 0xe1])?;
-    assert!(rt; listing.text.as_slice() == b"FFFF 3007 BR FF07\n0001 E1 SEX R1\n");
+    assert!(rt; listing.text.as_slice() == b"FFFF 3007 BR FF07\n0001 E1 SEX R1\n".as_slice());
     Ok(())
 }
 

@@ -1,5 +1,5 @@
 -- The laws of a cycle, of every processor, memory and board. Assumes nothing.
-use Rattle.std.proofs.Common.{◌≡◌, ℕ, ◌+◌, ◌-◌, ◌/◌, ◌%◌, ◌<◌, ◌≤◌, min, Bool, true, false, cond, ◌&&◌, ◌||◌, eqb, ◌⊎◌, List, length, get_or, set, Some, None, Option, sym, refl, ap, ◌∙◌, subst, inl, inr, arith, get_or-set_same, rules}
+use Rattle.std.proofs.Common.{◌≡◌, ℕ, ◌-◌, ◌/◌, ◌<◌, ◌≤◌, min, Bool, true, false, cond, ◌&&◌, eqb, ◌⊎◌, List, length, get_or, Some, None, Option, sym, refl, ap, ◌∙◌, subst, inl, inr, arith, get_or-set_same, rules}
 use Rattle.std.proofs.lemmas.Bool.Decides.{eqb_tells, nat_tests}
 use Rattle.board.specs.declared.signals.Announcement.{Announcement}
 use Rattle.board.specs.declared.signals.Record.{Record}
@@ -10,8 +10,7 @@ use Rattle.isa.specs.Laws.{InAppendixA}
 use Rattle.isa.specs.Table.{cycles_of}
 use Rattle.isa.specs.Operands.{digit_of}
 use Rattle.isa.specs.declared.instructions.Instruction.{Instruction}
-use Rattle.isa.specs.declared.instructions.Instruction.TheVariants.{Inp, Ret, Dis}
-use Rattle.isa.specs.declared.operands.Port.{Port}
+use Rattle.isa.specs.declared.instructions.Instruction.TheVariants.{Ret, Dis}
 use Rattle.isa.specs.declared.operands.Register.{Register}
 use Rattle.execution.specs.Effects.{executed}
 use Rattle.registers.specs.Registers.{Sized, up}
@@ -33,11 +32,11 @@ use Rattle.processor.specs.declared.state.Cycle.TheVariants as cycle
 use Rattle.processor.specs.declared.state.Mode.{Mode}
 use Rattle.processor.specs.declared.state.Mode.TheVariants.{Load, Run}
 use Rattle.processor.specs.declared.state.Processor.{Processor}
-use Rattle.processor.specs.Cycles.{announced, comes_next, due, due_at, served, unserved, with_instruction}
+use Rattle.processor.specs.Cycles.{announced, due, served, unserved, with_instruction}
 use Rattle.processor.specs.Laws.{Paced, KeepsDf, KeepsOpcode, StepsX, StepsOldX, LoadsBus, InterruptsIn, left, left_at, alters_df}
 use Rattle.memory.specs.Store.{Store}
-use Rattle.processor.specs.Machine.{Machine, machine, registers_after, show_in, stepped, stepped_by, taken_in}
-use Rattle.processor.proofs.Kept.{Kept, execute_kept, second_kept}
+use Rattle.processor.specs.Machine.{Machine, machine, registers_after, stepped, stepped_by, taken_in}
+use Rattle.processor.proofs.Kept.{execute_kept, second_kept}
 
 -- what holds of each cycle that the lines can lead to, and of the rest, holds of what they decide
 module _ (P : Coming → Type 0) (into : P DmaIn) (out : P DmaOut) (idle : P Idle) where

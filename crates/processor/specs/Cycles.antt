@@ -1,6 +1,6 @@
 -- The kinds of cycle: what each announces, which byte it uses, what it does to the registers, and what comes next.
 -- Assumes nothing.
-use Rattle.std.specs.Prelude.{ℕ, ◌%◌, Bool, true, false, cond, ◌&&◌, Some, None, Option, ◌==◌}
+use Rattle.std.specs.Prelude.{ℕ, ◌%◌, Bool, false, cond, ◌&&◌, Some, None, Option, ◌==◌}
 use Rattle.isa.specs.Instructions.{decoded}
 use Rattle.isa.specs.declared.instructions.Instruction.{Instruction}
 use Rattle.isa.specs.declared.operands.Register.TheVariants.{R0, R1, R2}

@@ -1,6 +1,5 @@
 -- What an access transfers, and what it leaves in the memory.
 -- Assumes nothing.
-use Rattle.std.specs.Prelude.{ℕ}
 use Rattle.board.specs.declared.signals.Direction.TheVariants.{Read, Write, Neither}
 use Rattle.execution.specs.declared.access.Access.{Access}
 use Rattle.execution.specs.declared.access.Access.TheVariants.{Reads, Writes, Nothing}

@@ -1,4 +1,4 @@
-use Rattle.std.proofs.Common.{ap, ◌∙◌, rules}
+use Rattle.std.proofs.Common.{ap, ◌∙◌}
 use Rattle.alu.specs.Logic.{bit_at}
 use Rattle.alu.proofs.BitByBit.{or_bits}
 use Rattle.alu.proofs.logic.or.Goals as goal

@@ -3,42 +3,45 @@ use Rattle.std.proofs.lemmas.List.{length-drop, length-take}
 use Rattle.std.proofs.lemmas.Result.{MatchResult-from_err}
 use Rattle.listing.specs.Groups.{said}
 use Rattle.listing.specs.Program.{Lists, NoRoom}
-use Rattle.listing.proofs.Parts.{Sized, going_all, going_full, going_more, sized}
+use Rattle.listing.proofs.Parts.{going_all, going_full, going_more, sized}
 use Rattle.listing.proofs.program.list_program.Goals as goal
-use Rattle.listing.proofs.program.list_program.Goals.{After-behind-at, After-rest-1}
 
--- how long the group of this turn is, before and after the rest is cut
-this_size : (c : After-behind-at) → Sized c.loop-group.rest.now c.bytes-size.result.now
-this_size c =
-    sized c.loop-group.rest.now c.bytes-size.result.now (said c.in-Some.group) c.in-Some.ensures.0
-    c.in-Some.ensures.1 c.bytes-size.ensures
-
-cut_size : (c : After-rest-1) → Sized c.loop-group.rest.now c.bytes-size.result.now
-cut_size c =
-    sized c.loop-group.rest.now c.bytes-size.result.now (said c.in-Some.group) c.in-Some.ensures.0
-    c.in-Some.ensures.1 c.bytes-size.ensures
-
+-- each goal within a turn goes by how long the turn's group is
 pub behind-at-requires : goal.behind-at-requires
 behind-at-requires c =
     (sized c.loop-group.rest.now c.bytes-size.result.now (said c.in-Some.group) c.in-Some.ensures.0
     c.in-Some.ensures.1 c.bytes-size.ensures).most
 
 pub slice_bounds-rest-count : goal.slice_bounds-rest-count
-slice_bounds-rest-count c = (this_size c).within
+slice_bounds-rest-count c =
+    (sized c.loop-group.rest.now c.bytes-size.result.now (said c.in-Some.group) c.in-Some.ensures.0
+    c.in-Some.ensures.1 c.bytes-size.ensures).within
 
 pub slice_bounds-rest-start : goal.slice_bounds-rest-start
-slice_bounds-rest-start c = let size = this_size c in search rules
+slice_bounds-rest-start c =
+    let size =
+    sized c.loop-group.rest.now c.bytes-size.result.now (said c.in-Some.group) c.in-Some.ensures.0
+    c.in-Some.ensures.1 c.bytes-size.ensures
+    in
+    search rules
 
 pub loop-group-smaller : goal.loop-group-smaller
 loop-group-smaller c =
-    let size = cut_size c in
+    let size =
+    sized c.loop-group.rest.now c.bytes-size.result.now (said c.in-Some.group) c.in-Some.ensures.0
+    c.in-Some.ensures.1 c.bytes-size.ensures
+    in
     simp (length-take, length-drop) (omega (arith, size.least, size.within))
 
 pub loop-group-preserved : goal.loop-group-preserved
 loop-group-preserved c =
+    let size =
+    sized c.loop-group.rest.now c.bytes-size.result.now (said c.in-Some.group) c.in-Some.ensures.0
+    c.in-Some.ensures.1 c.bytes-size.ensures
+    in
     going_more (vec_items c.args.text) (vec_capacity c.args.text) c.args.address c.loop-group.at c.behind-at.result c.args.code.now c.loop-group.rest.now
     c.bytes-size.result.now c.loop-group.listing c.add.new.self (said c.in-Some.group)
-    c.loop-group.invariant c.in-Some.ensures.0 c.in-Some.ensures.1 (cut_size c)
+    c.loop-group.invariant c.in-Some.ensures.0 c.in-Some.ensures.1 size
     c.in_ok-add.ensures c.behind-at.ensures
 
 pub returns : goal.returns
