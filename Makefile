@@ -1,5 +1,5 @@
 # `make run` lists the shipped example; `make test` is the whole gate.
-.PHONY: run test ci c programs
+.PHONY: run test c programs
 
 run:
 	@tools/build.sh list
@@ -7,10 +7,7 @@ run:
 	@target/bin/list < examples/meal.bin
 
 # `rt ci` comes last: its last line is the verdict.
-test: c programs ci
-
-# Each crate, its tests and must-fail edits, and the programs against their stored output.
-ci:
+test: c programs
 	@tools/ci.sh
 
 # The C caller over the static library.

@@ -8,7 +8,8 @@ import os
 import re
 import sys
 
-# Two names that would fall together, and one that began with a capital.
+# Names that the rule would not turn so: two that would fall together with others, two with capitals of their own, and
+# three that go with class_c and class_f.
 OTHERS = {
     "inAppendixA": "is_in_appendix_a",
     "asLongAsTable": "is_as_long_as_table",
