@@ -18,17 +18,19 @@ head -c 65536 /dev/zero | target/bin/list > "$out/full"
 grep -qx 'FFFF 00 IDL' "$out/full" || fail 'the byte at FFFF is not listed'
 grep -qx 'listed: 65536 groups: 65536 instructions and 0 BYTE' "$out/full" || fail '65536 bytes are not listed'
 
-if head -c 65537 /dev/zero | target/bin/list > "$out/over" 2> "$out/over.err"; then
-    fail '65537 bytes are taken'
-fi
-grep -q 'at most 65536' "$out/over.err" || fail 'the refusal of 65537 bytes does not say why'
-[ ! -s "$out/over" ] || fail 'a refused program is listed'
+# A program on standard input that it has to refuse: it ends with status 1, and says why in one line of error.
+refused() {
+    local name=$1 why=$2 status=0
+    "target/bin/$name" > "$out/$name" 2> "$out/$name.err" || status=$?
+    [ "$status" = 1 ] || fail "$name ends with status $status where it has to refuse"
+    [ "$(wc -l < "$out/$name.err")" = 1 ] || fail "$name does not say in one line what is wrong"
+    grep -q "^$name: .*$why" "$out/$name.err" || fail "$name does not say why it refuses: $why"
+}
 
-if sed 's/^7A REQ$/7A SEQ/' crates/witness/stdin | target/bin/witness > "$out/names" 2> "$out/names.err"; then
-    fail 'witness takes a name that differs'
-fi
-grep -qx 'differs: 7A SEQ' "$out/names" || fail 'witness does not say which name differs'
-if head -n 255 crates/witness/stdin | target/bin/witness > "$out/names" 2> "$out/names.err"; then
-    fail 'witness takes 255 opcodes for all'
-fi
+head -c 65537 /dev/zero | refused list 'at most 65536'
+[ ! -s "$out/list" ] || fail 'a refused program is listed'
+
+sed 's/^7A REQ$/7A SEQ/' crates/witness/stdin | refused witness 'names differ'
+grep -qx 'differs: 7A SEQ' "$out/witness" || fail 'witness does not say which name differs'
+head -n 255 crates/witness/stdin | refused witness 'an opcode is missing'
 echo 'programs_test: list and witness print and refuse what is expected'

@@ -8,46 +8,30 @@ use Rattle.listing.proofs.program.list_program.Goals as goal
 
 -- each goal within a turn goes by how long the turn's group is
 pub behind-at-requires : goal.behind-at-requires
-behind-at-requires c =
-    (sized c.loop-group.rest.now c.bytes-size.result.now (said c.in-Some.group) c.in-Some.ensures.0
-    c.in-Some.ensures.1 c.bytes-size.ensures).most
+behind-at-requires c = (sized _ _ _ c.in-Some.ensures.0 c.in-Some.ensures.1 c.bytes-size.ensures).most
 
 pub slice_bounds-rest-count : goal.slice_bounds-rest-count
-slice_bounds-rest-count c =
-    (sized c.loop-group.rest.now c.bytes-size.result.now (said c.in-Some.group) c.in-Some.ensures.0
-    c.in-Some.ensures.1 c.bytes-size.ensures).within
+slice_bounds-rest-count c = (sized _ _ _ c.in-Some.ensures.0 c.in-Some.ensures.1 c.bytes-size.ensures).within
 
 pub slice_bounds-rest-start : goal.slice_bounds-rest-start
 slice_bounds-rest-start c =
-    let size =
-    sized c.loop-group.rest.now c.bytes-size.result.now (said c.in-Some.group) c.in-Some.ensures.0
-    c.in-Some.ensures.1 c.bytes-size.ensures
-    in
+    let size = sized _ _ _ c.in-Some.ensures.0 c.in-Some.ensures.1 c.bytes-size.ensures in
     search rules
 
 pub loop-group-smaller : goal.loop-group-smaller
 loop-group-smaller c =
-    let size =
-    sized c.loop-group.rest.now c.bytes-size.result.now (said c.in-Some.group) c.in-Some.ensures.0
-    c.in-Some.ensures.1 c.bytes-size.ensures
-    in
+    let size = sized _ _ _ c.in-Some.ensures.0 c.in-Some.ensures.1 c.bytes-size.ensures in
     simp (length-take, length-drop) (omega (arith, size.least, size.within))
 
 pub loop-group-preserved : goal.loop-group-preserved
 loop-group-preserved c =
-    let size =
-    sized c.loop-group.rest.now c.bytes-size.result.now (said c.in-Some.group) c.in-Some.ensures.0
-    c.in-Some.ensures.1 c.bytes-size.ensures
-    in
-    going_more (vec_items c.args.text) (vec_capacity c.args.text) c.args.address c.loop-group.at c.behind-at.result c.args.code.now c.loop-group.rest.now
-    c.bytes-size.result.now c.loop-group.listing c.add.new.self (said c.in-Some.group)
-    c.loop-group.invariant c.in-Some.ensures.0 c.in-Some.ensures.1 size
-    c.in_ok-add.ensures c.behind-at.ensures
+    let size = sized _ _ _ c.in-Some.ensures.0 c.in-Some.ensures.1 c.bytes-size.ensures in
+    going_more _ _ _ _ _ _ _ _ _ _ _ c.loop-group.invariant c.in-Some.ensures.0 c.in-Some.ensures.1 size c.in_ok-add.ensures
+    c.behind-at.ensures
 
 pub returns : goal.returns
 returns c =
-    going_all (vec_items c.args.text) (vec_capacity c.args.text) c.args.address c.loop-group.at c.args.code.now c.loop-group.rest.now c.loop-group.listing
-    c.loop-group.invariant c.in_default.ensures
+    going_all _ _ _ _ _ _ _ c.loop-group.invariant c.in_default.ensures
 
 pub returns-in_err-add : goal.returns-in_err-add
 returns-in_err-add c =
