@@ -1,2 +1,2 @@
 pub mod Store
-pub mod Rows
+pub mod Bytes

@@ -26,12 +26,20 @@ ram_of bytes = record { byte = byte_at bytes; keeps = λ a. nat_lt a (length byt
 abbrev pub fixed_of : List ℕ → Store
 fixed_of bytes = record { byte = byte_at bytes; keeps = λ a. false }
 
+-- bytes that are kept, or fixed
+abbrev pub store_of : Bool → List ℕ → Store
+store_of is_kept bytes = cond is_kept (ram_of bytes) (fixed_of bytes)
+
 -- how a memory is built, which no write changes: how many bytes are kept; which bytes are fixed; two memories and their
 -- boundary
 pub data Form : Type 0 where
   kept : ℕ → Form
   fixed : List ℕ → Form
   parts : ℕ → Form → Form → Form
+
+-- how a memory of bytes is built
+abbrev pub form_of : Bool → List ℕ → Form
+form_of is_kept bytes = cond is_kept (kept (length bytes)) (fixed bytes)
 
 -- two stores as one: addresses below the boundary are the lower one's, the others, less the boundary, the upper one's
 abbrev pub joined_of : ℕ → Store → Store → Store

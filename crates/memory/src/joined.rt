@@ -28,12 +28,7 @@ impl<L, U> Joined<L, U> {
     pub fn into_parts(self) -> (L, U)
         ensures { (result.0 ≡ self.lower) × (result.1 ≡ self.upper) }
     {
-        let Joined {
-            lower,
-            upper,
-            boundary: _,
-        } = self;
-        (lower, upper)
+        (self.lower, self.upper)
     }
 }
 

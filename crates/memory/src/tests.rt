@@ -1,8 +1,7 @@
 // Memories as a caller meets them.
-use crate::fixed::Fixed;
+use crate::bytes::{Fixed, Ram};
 use crate::joined::Joined;
 use crate::meaning::Memory;
-use crate::ram::Ram;
 use std::test::Fail;
 
 #[test]

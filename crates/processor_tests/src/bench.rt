@@ -2,8 +2,8 @@
 use board::script::Script;
 use board::signals::{CycleName, Direction, Record, Show};
 use isa::operands::Register;
+use memory::bytes::Ram;
 use memory::meaning::Memory;
-use memory::ram::Ram;
 use processor::state::{Coming, Mode, Processor};
 use std::alloc::{AllocError, Global};
 use std::process::Abort;
