@@ -9,6 +9,7 @@ use Rattle.board.specs.declared.signals.Direction.{Direction}
 use Rattle.board.specs.declared.signals.Direction.TheVariants.{Read, Write, Neither}
 use Rattle.board.specs.declared.signals.Record.{Record}
 use Rattle.board.specs.declared.signals.Show.{Show}
+use Rattle.board.specs.Signals.{silent}
 
 -- 5 ms and 40 ms in machine cycles at 6.4 MHz
 abbrev pub cycles_of : Delay → ℕ
@@ -42,14 +43,8 @@ left_in p = slice_index p 5
 
 -- EF1 while a write is under way; the keypad byte while the N lines are 1
 abbrev pub shown_by : List ℕ → Announcement → Show
-shown_by p announced = record {
+shown_by p announced = record silent {
   ef1 = nat_lt 0 (left_in p);
-  ef2 = false;
-  ef3 = false;
-  ef4 = false;
-  dma_in = false;
-  dma_out = false;
-  interrupt = false;
   bus = cond (announced.lines == 1) (key_in p) 0xFF;
 }
 

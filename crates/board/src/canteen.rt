@@ -49,20 +49,6 @@ impl Canteen {
         }
     }
 
-    // What a cycle does to the board: OUT 2 is for the card, OUT 1 for the lamp, and INP for neither.
-    fn take(&mut self, record: Record)
-        ensures { position_of self.new ≡ moved_by (position_of self.old) «record» }
-    {
-        match (record.direction, record.announcement.lines) {
-            (Direction::Read, 2) => self.put_card(record.byte),
-            (Direction::Read, 1) => {
-                self.lamp = record.byte;
-                self.left = self.left.saturating_sub(1);
-            }
-            _ => self.left = self.left.saturating_sub(1),
-        }
-    }
-
     // A byte for the card: it begins a write where none is under way, else it is lost.
     fn put_card(&mut self, byte: u8)
         ensures { position_of self.new ≡ carded (position_of self.old) byte }
@@ -87,25 +73,28 @@ impl Board for Canteen {
     fn show(&self, announcement: Announcement) -> Show {
         Show {
             ef1: self.left > 0,
-            ef2: false,
-            ef3: false,
-            ef4: false,
-            dma_in: false,
-            dma_out: false,
-            interrupt: false,
             bus: if announcement.lines == 1 {
                 self.key
             } else {
                 0xff
             },
+            ..Show::silent()
         }
     }
 
+    // OUT 2 is for the card, OUT 1 for the lamp, and INP for neither.
     fn tell(&mut self, record: Record)
         ensures moves { position_of self.new ≡ moved_by (position_of self.old) «record» }
         ensures accepts { Accepts (cycles_of self.old.delay) (position_of self.old) «record» (position_of self.new) }
         ensures loses { Loses (position_of self.old) «record» (position_of self.new) }
     {
-        self.take(record);
+        match (record.direction, record.announcement.lines) {
+            (Direction::Read, 2) => self.put_card(record.byte),
+            (Direction::Read, 1) => {
+                self.lamp = record.byte;
+                self.left = self.left.saturating_sub(1);
+            }
+            _ => self.left = self.left.saturating_sub(1),
+        }
     }
 }

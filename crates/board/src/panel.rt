@@ -38,13 +38,6 @@ impl Canteen {
         ensures value { result ≡ self.now.left }
         ensures waits { Waits result (position_of self.now) }
     {
-        self.counted()
-    }
-
-    // The same without the law, which is shown above.
-    fn counted(&self) -> u16
-        ensures { result ≡ self.now.left }
-    {
         self.left
     }
 }

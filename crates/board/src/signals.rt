@@ -22,12 +22,11 @@ impl CycleName {
     {
         match self {
             CycleName::Fetch => 0,
-            CycleName::Initialise => 1,
-            CycleName::Execute => 1,
-            CycleName::SecondExecute => 1,
-            CycleName::Idle => 1,
-            CycleName::DmaIn => 2,
-            CycleName::DmaOut => 2,
+            CycleName::Initialise
+            | CycleName::Execute
+            | CycleName::SecondExecute
+            | CycleName::Idle => 1,
+            CycleName::DmaIn | CycleName::DmaOut => 2,
             CycleName::Interrupt => 3,
         }
     }

@@ -1,13 +1,9 @@
-use Rattle.std.proofs.Common.{ℕ, List, sym, subst}
-use Rattle.board.specs.Canteen.{Accepts, Loses, cycles_of, position_of}
-use Rattle.board.proofs.Writes.{accepts, loses}
+use Rattle.std.proofs.Common.{sym, ap}
+use Rattle.board.specs.Canteen.{card_in, left_in, lost_in}
+use Rattle.board.proofs.Writes.{waits}
 use Rattle.board.proofs.canteen.CanteenBoard.tell.Goals as goal
 
-pub returns : goal.returns
-returns c = record {
-  moves = c.take.ensures;
-  accepts = subst (λ (after : List ℕ). Accepts (cycles_of c.args.self.now.delay) (position_of c.args.self.now) c.args.record after)
-      (sym c.take.ensures) (accepts (position_of c.args.self.now) c.args.record);
-  loses = subst (λ (after : List ℕ). Loses (position_of c.args.self.now) c.args.record after) (sym c.take.ensures)
-      (loses (position_of c.args.self.now) c.args.record);
-}
+pub returns-in-Read-eq2-clause-accepts : goal.returns-in-Read-eq2-clause-accepts
+returns-in-Read-eq2-clause-accepts c sent free =
+    let begun = rw free at c.put_card.ensures in
+    (ap card_in begun, ap lost_in begun, waits _ _ (sym (ap left_in begun)))
