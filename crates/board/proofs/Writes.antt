@@ -14,5 +14,6 @@ goes_on : (rs : List Record) (p : List ℕ) → length rs ≤ left_in p
 goes_on [] p h = grind arith
 goes_on (r ∷ rs) p h = grind (arith, one_cycle p r, goes_on rs (moved_by p r))
 
-pub waits : (p : List ℕ) (n : ℕ) → n ≡ left_in p → Waits n p
-waits p n e rs announced h = grind (arith, goes_on rs p)
+pub waits : (n : ℕ) (p : List ℕ) → n ≡ left_in p → Waits n p
+unfolding Waits
+waits n p e rs announced h = grind (arith, goes_on rs p)

@@ -82,7 +82,7 @@ told p [] = p
 told p (r ∷ rs) = told (moved_by p r) rs
 
 -- EF1 shows in just the next n cycles, whatever is told in them, and the card byte stays until then
-abbrev pub Waits : ℕ → List ℕ → Type 0
+unfoldable pub Waits : ℕ → List ℕ → Type 0
 Waits n p =
     (rs : List Record) (announced : Announcement) → length rs ≤ n
     → ((shown_by (told p rs) announced).ef1 ≡ nat_lt (length rs) n) × (card_in (told p rs) ≡ card_in p)

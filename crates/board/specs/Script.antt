@@ -35,7 +35,7 @@ first_show p = record {
 }
 
 -- the first show that is left, or silence, whatever is announced
-abbrev pub shown_in : List ℕ → Announcement → Show
+unfoldable pub shown_in : List ℕ → Announcement → Show
 shown_in p announced = cond (nat_lt (length p) 8) silent (first_show p)
 
 -- one show fewer, whatever is told

@@ -83,6 +83,7 @@ impl Board for Canteen {
     }
 
     // OUT 2 is for the card, OUT 1 for the lamp, and INP for neither.
+    #[tactic(auto, using(crate::proofs::Writes::waits))]
     fn tell(&mut self, record: Record)
         ensures moves { position_of self.new ≡ moved_by (position_of self.old) «record» }
         ensures accepts { Accepts (cycles_of self.old.delay) (position_of self.old) «record» (position_of self.new) }

@@ -36,11 +36,13 @@ impl Board for Script {
     ghost moved = { moved_in };
 
     // The show at the board's place, or silence past the end.
+    #[tactic(auto, using(crate::proofs::Scripts::shown_left))]
     fn show(&self, _announcement: Announcement) -> Show {
         self.shows.get(self.next).copied().unwrap_or(Show::silent())
     }
 
     // One cycle on; at the end the board stays there. The list stays as it is.
+    #[tactic(auto, using(crate::proofs::Scripts::moved_left))]
     fn tell(&mut self, _record: Record)
         ensures moves { position_of self.new ≡ moved_in (position_of self.old) «_record» }
         ensures keeps { self.new.shows.items ≡ self.old.shows.items }
