@@ -1,10 +1,7 @@
 -- Sums and differences of bytes: the byte is the exact result modulo 256.
 -- Assumes nothing.
 use Rattle.std.specs.Prelude.{◌≡◌, ℕ, ◌+◌, ◌-◌, ◌%◌, Bool, true, false, ℤ, pos, ◌+ℤ◌, ◌-ℤ◌, ◌≤ℤ◌, Decides, nat_le, nat_lt}
-
-abbrev pub bit : Bool → ℕ
-bit true = 1
-bit false = 0
+use Rattle.std.specs.Int.{from_bool}
 
 -- what is borrowed where no carry is handed on
 abbrev pub borrow : Bool → ℕ
@@ -12,10 +9,10 @@ borrow true = 0
 borrow false = 1
 
 abbrev pub sum : ℕ → ℕ → Bool → ℕ
-sum m d c = (m + d + bit c) % 256
+sum m d c = (m + d + from_bool c) % 256
 
 abbrev pub carry : ℕ → ℕ → Bool → Bool
-carry m d c = nat_lt 255 (m + d + bit c)
+carry m d c = nat_lt 255 (m + d + from_bool c)
 
 abbrev pub difference : ℕ → ℕ → Bool → ℕ
 difference a b c = (a + 256 - b - borrow c) % 256

@@ -1,10 +1,6 @@
--- The bits of a byte.
+-- Bits that differ.
 -- Assumes nothing.
-use Rattle.std.specs.Prelude.{ℕ, ◌-◌, ◌/◌, ◌%◌, ◌^◌, min, max}
-
--- bit k of a number, the low one being bit 0
-abbrev pub bit_at : ℕ → ℕ → ℕ
-bit_at k n = n / 2 ^ k % 2
+use Rattle.std.specs.Prelude.{ℕ, ◌-◌, min, max}
 
 -- 1 where two bits differ
 abbrev pub unlike : ℕ → ℕ → ℕ

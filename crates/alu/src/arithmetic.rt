@@ -1,15 +1,15 @@
 // Sums and differences of bytes. Each answers the byte and the carry together, which go to D and DF.
 ghost use Rattle.std.specs.Prelude.{◌≡◌, ◌+◌, ◌*◌};
-ghost use Rattle.alu.specs.Arithmetic.{sum, carry, difference, not_below, bit, Exactly, Sign};
+ghost use Rattle.std.specs.Int.{from_bool};
+ghost use Rattle.alu.specs.Arithmetic.{sum, carry, difference, not_below, Exactly, Sign};
 
 // m + d, and one more with a carry. The carry out is 1 for a sum above 255.
 pub fn add(m: u8, d: u8, carried: bool) -> (u8, bool)
     ensures byte { result.0 ≡ sum m d carried }
     ensures flag { result.1 ≡ carry m d carried }
-    ensures exact { result.0 + 256 * bit result.1 ≡ m + d + bit carried }
+    ensures exact { result.0 + 256 * from_bool result.1 ≡ m + d + from_bool carried }
 {
-    let wide = u16::from(m) + u16::from(d) + u16::from(carried);
-    ((wide % 256) as u8, wide > 255)
+    m.carrying_add(d, carried)
 }
 
 // a − b, and one less without a carry, which is a borrow. The carry out is 1 for a difference not below 0.
@@ -19,6 +19,6 @@ pub fn subtract(a: u8, b: u8, carried: bool) -> (u8, bool)
     ensures exact { Exactly a b carried result.0 result.1 }
     ensures sign { Sign a b carried result.1 }
 {
-    let wide = 255 + u16::from(a) + u16::from(carried) - u16::from(b);
-    ((wide % 256) as u8, wide > 255)
+    let (byte, borrowed) = a.borrowing_sub(b, !carried);
+    (byte, !borrowed)
 }

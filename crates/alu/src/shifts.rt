@@ -8,8 +8,7 @@ pub fn shift_right(d: u8, carried: bool) -> (u8, bool)
     ensures flag { result.1 ≡ right_bit d }
     ensures undone { (left result.0 result.1 ≡ d) × (left_bit result.0 ≡ carried) }
 {
-    let high = if carried { 0x80 } else { 0 };
-    (d / 2 + high, d % 2 == 1)
+    ((d >> 1) + (u8::from(carried) << 7), d % 2 == 1)
 }
 
 // To the left: the carry comes in at the low bit, and the high bit leaves. A shift to the right with that bit undoes it.
@@ -18,6 +17,5 @@ pub fn shift_left(d: u8, carried: bool) -> (u8, bool)
     ensures flag { result.1 ≡ left_bit d }
     ensures undone { (right result.0 result.1 ≡ d) × (right_bit result.0 ≡ carried) }
 {
-    let wide = u16::from(d) * 2 + u16::from(carried);
-    ((wide % 256) as u8, d >= 0x80)
+    ((d << 1) + u8::from(carried), d >= 0x80)
 }

@@ -9,6 +9,7 @@ use Rattle.board.specs.declared.signals.Direction.{Direction}
 use Rattle.board.specs.declared.signals.Direction.TheVariants.{Read, Write, Neither}
 use Rattle.board.specs.declared.signals.Record.{Record}
 use Rattle.board.specs.declared.signals.Show.{Show}
+use Rattle.board.specs.Signals.{silent}
 
 -- 5 ms and 40 ms in machine cycles at 6.4 MHz
 abbrev pub cycles_of : Delay → ℕ
@@ -42,14 +43,8 @@ left_in p = slice_index p 5
 
 -- EF1 while a write is under way; the keypad byte while the N lines are 1
 abbrev pub shown_by : List ℕ → Announcement → Show
-shown_by p announced = record {
+shown_by p announced = record silent {
   ef1 = nat_lt 0 (left_in p);
-  ef2 = false;
-  ef3 = false;
-  ef4 = false;
-  dma_in = false;
-  dma_out = false;
-  interrupt = false;
   bus = cond (announced.lines == 1) (key_in p) 0xFF;
 }
 
@@ -87,7 +82,7 @@ told p [] = p
 told p (r ∷ rs) = told (moved_by p r) rs
 
 -- EF1 shows in just the next n cycles, whatever is told in them, and the card byte stays until then
-abbrev pub Waits : ℕ → List ℕ → Type 0
+unfoldable pub Waits : ℕ → List ℕ → Type 0
 Waits n p =
     (rs : List Record) (announced : Announcement) → length rs ≤ n
     → ((shown_by (told p rs) announced).ef1 ≡ nat_lt (length rs) n) × (card_in (told p rs) ≡ card_in p)

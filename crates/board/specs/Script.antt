@@ -1,6 +1,7 @@
 -- The script board's positions: the shows that are left, eight numbers to a show.
 -- Assumes nothing.
-use Rattle.std.specs.Prelude.{◌≡◌, ℕ, ◌+◌, ◌<◌, ◌≤◌, Bool, true, false, cond, List, [], ◌∷◌, length, drop, vec_items, ◌==◌, nat_lt, slice_index, slice_index_or}
+use Rattle.std.specs.Prelude.{ℕ, cond, List, [], ◌∷◌, length, drop, vec_items, ◌==◌, nat_lt, slice_index}
+use Rattle.std.specs.Int.{from_bool}
 use Rattle.std.specs.List.{flat_map}
 use Rattle.board.specs.declared.script.Script.{Script}
 use Rattle.board.specs.declared.signals.Announcement.{Announcement}
@@ -8,34 +9,17 @@ use Rattle.board.specs.declared.signals.Record.{Record}
 use Rattle.board.specs.declared.signals.Show.{Show}
 use Rattle.board.specs.Signals.{silent}
 
-abbrev pub bit : Bool → ℕ
-bit true = 1
-bit false = 0
-
 -- a show as eight numbers: the flags, the request lines and the bus byte
 abbrev pub show_code : Show → List ℕ
 show_code s =
-    bit s.ef1 ∷ bit s.ef2 ∷ bit s.ef3 ∷ bit s.ef4
-    ∷ bit s.dma_in ∷ bit s.dma_out ∷ bit s.interrupt ∷ s.bus ∷ []
+    from_bool s.ef1 ∷ from_bool s.ef2 ∷ from_bool s.ef3 ∷ from_bool s.ef4
+    ∷ from_bool s.dma_in ∷ from_bool s.dma_out ∷ from_bool s.interrupt ∷ s.bus ∷ []
 
 abbrev pub codes_of : List Show → List ℕ
 codes_of = flat_map show_code
 
 abbrev pub position_of : Script → List ℕ
 position_of b = codes_of (drop b.next (vec_items b.shows))
-
--- the show at the board's place in its list, or silence past the end
-abbrev pub Current : Script → Show → Type 0
-Current b s =
-    (b.next < length (vec_items b.shows) → s ≡ slice_index_or (vec_items b.shows) b.next s)
-    × (length (vec_items b.shows) ≤ b.next → s ≡ silent)
-
--- the same list, one place on unless it is at its end
-abbrev pub Advanced : Script → Script → Type 0
-Advanced before after =
-    (vec_items after.shows ≡ vec_items before.shows)
-    × (before.next < length (vec_items before.shows) → after.next ≡ before.next + 1)
-    × (length (vec_items before.shows) ≤ before.next → after.next ≡ before.next)
 
 -- the first eight numbers, as a show
 abbrev pub first_show : List ℕ → Show
@@ -51,7 +35,7 @@ first_show p = record {
 }
 
 -- the first show that is left, or silence, whatever is announced
-abbrev pub shown_in : List ℕ → Announcement → Show
+unfoldable pub shown_in : List ℕ → Announcement → Show
 shown_in p announced = cond (nat_lt (length p) 8) silent (first_show p)
 
 -- one show fewer, whatever is told

@@ -6,7 +6,7 @@ use crate::meaning::Board;
 use crate::signals::{Announcement, Direction, Record, Show};
 
 // How long a card write takes: 5 ms or 40 ms at 6.4 MHz.
-#[derive(Clone, Copy)]
+#[derive(Debug, Clone, Copy, PartialEq, Eq)]
 pub enum Delay {
     Five,
     Forty,
@@ -24,7 +24,7 @@ impl Delay {
     }
 }
 
-#[derive(Clone, Copy)]
+#[derive(Debug, Clone, Copy, PartialEq, Eq)]
 pub struct Canteen {
     pub(crate) key: u8,
     pub(crate) delay: Delay,
@@ -46,20 +46,6 @@ impl Canteen {
             card: 0,
             lost: 0,
             left: 0,
-        }
-    }
-
-    // What a cycle does to the board: OUT 2 is for the card, OUT 1 for the lamp, and INP for neither.
-    fn take(&mut self, record: Record)
-        ensures { position_of self.new ≡ moved_by (position_of self.old) «record» }
-    {
-        match (record.direction, record.announcement.lines) {
-            (Direction::Read, 2) => self.put_card(record.byte),
-            (Direction::Read, 1) => {
-                self.lamp = record.byte;
-                self.left = self.left.saturating_sub(1);
-            }
-            _ => self.left = self.left.saturating_sub(1),
         }
     }
 
@@ -87,25 +73,29 @@ impl Board for Canteen {
     fn show(&self, announcement: Announcement) -> Show {
         Show {
             ef1: self.left > 0,
-            ef2: false,
-            ef3: false,
-            ef4: false,
-            dma_in: false,
-            dma_out: false,
-            interrupt: false,
             bus: if announcement.lines == 1 {
                 self.key
             } else {
                 0xff
             },
+            ..Show::silent()
         }
     }
 
+    // OUT 2 is for the card, OUT 1 for the lamp, and INP for neither.
+    #[tactic(auto, using(crate::proofs::Writes::waits))]
     fn tell(&mut self, record: Record)
         ensures moves { position_of self.new ≡ moved_by (position_of self.old) «record» }
         ensures accepts { Accepts (cycles_of self.old.delay) (position_of self.old) «record» (position_of self.new) }
         ensures loses { Loses (position_of self.old) «record» (position_of self.new) }
     {
-        self.take(record);
+        match (record.direction, record.announcement.lines) {
+            (Direction::Read, 2) => self.put_card(record.byte),
+            (Direction::Read, 1) => {
+                self.lamp = record.byte;
+                self.left = self.left.saturating_sub(1);
+            }
+            _ => self.left = self.left.saturating_sub(1),
+        }
     }
 }

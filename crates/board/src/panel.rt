@@ -34,16 +34,10 @@ impl Canteen {
     }
 
     // How many write cycles are left: EF1 shows in just as many to come, whatever is told in them, and the card byte stays.
+    #[tactic(auto, using(crate::proofs::Writes::waits))]
     pub fn left(&self) -> u16
         ensures value { result ≡ self.now.left }
         ensures waits { Waits result (position_of self.now) }
-    {
-        self.counted()
-    }
-
-    // The same without the law, which is shown above.
-    fn counted(&self) -> u16
-        ensures { result ≡ self.now.left }
     {
         self.left
     }

@@ -1,6 +1,6 @@
 // The script board: a list of shows, one for each cycle, and then silence.
 ghost use Rattle.std.specs.Prelude.{◌≡◌};
-ghost use Rattle.board.specs.Script.{Advanced, Current, codes_of, moved_in, position_of, shown_in};
+ghost use Rattle.board.specs.Script.{codes_of, moved_in, position_of, shown_in};
 
 use crate::meaning::Board;
 use crate::signals::{Announcement, Record, Show};
@@ -26,26 +26,6 @@ impl Script {
         let Script { shows, next: _ } = self;
         shows
     }
-
-    // The show of the coming cycle.
-    fn current(&self) -> Show
-        ensures { Current self.now result }
-    {
-        if self.next < self.shows.len() {
-            self.shows[self.next]
-        } else {
-            Show::silent()
-        }
-    }
-
-    // One cycle on; at the end the board stays there.
-    fn advance(&mut self)
-        ensures { Advanced self.old self.new }
-    {
-        if self.next < self.shows.len() {
-            self.next += 1;
-        }
-    }
 }
 
 impl Board for Script {
@@ -55,11 +35,20 @@ impl Board for Script {
 
     ghost moved = { moved_in };
 
+    // The show at the board's place, or silence past the end.
+    #[tactic(auto, using(crate::proofs::Scripts::shown_left))]
     fn show(&self, _announcement: Announcement) -> Show {
-        self.current()
+        self.shows.get(self.next).copied().unwrap_or(Show::silent())
     }
 
-    fn tell(&mut self, _record: Record) {
-        self.advance();
+    // One cycle on; at the end the board stays there. The list stays as it is.
+    #[tactic(auto, using(crate::proofs::Scripts::moved_left))]
+    fn tell(&mut self, _record: Record)
+        ensures moves { position_of self.new ≡ moved_in (position_of self.old) «_record» }
+        ensures keeps { self.new.shows.items ≡ self.old.shows.items }
+    {
+        if self.next < self.shows.len() {
+            self.next += 1;
+        }
     }
 }

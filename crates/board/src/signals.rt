@@ -3,7 +3,7 @@ ghost use Rattle.std.specs.Prelude.{◌≡◌};
 ghost use Rattle.board.specs.Signals.{state_code, silent};
 
 // The eight kinds of machine cycle.
-#[derive(Clone, Copy)]
+#[derive(Debug, Clone, Copy, PartialEq, Eq)]
 pub enum CycleName {
     Initialise,
     Fetch,
@@ -22,19 +22,18 @@ impl CycleName {
     {
         match self {
             CycleName::Fetch => 0,
-            CycleName::Initialise => 1,
-            CycleName::Execute => 1,
-            CycleName::SecondExecute => 1,
-            CycleName::Idle => 1,
-            CycleName::DmaIn => 2,
-            CycleName::DmaOut => 2,
+            CycleName::Initialise
+            | CycleName::Execute
+            | CycleName::SecondExecute
+            | CycleName::Idle => 1,
+            CycleName::DmaIn | CycleName::DmaOut => 2,
             CycleName::Interrupt => 3,
         }
     }
 }
 
 // What the station announces before a cycle. The N lines are 0 but in the execute of class 6.
-#[derive(Clone, Copy)]
+#[derive(Debug, Clone, Copy, PartialEq, Eq)]
 pub struct Announcement {
     pub name: CycleName,
     // the N lines
@@ -44,7 +43,7 @@ pub struct Announcement {
 }
 
 // What the board shows in a cycle: the flags EF1 to EF4, the three request lines, and a byte on the bus.
-#[derive(Clone, Copy)]
+#[derive(Debug, Clone, Copy, PartialEq, Eq)]
 pub struct Show {
     pub ef1: bool,
     pub ef2: bool,
@@ -75,7 +74,7 @@ impl Show {
 }
 
 // Whether a cycle read a byte of memory, wrote one, or used none.
-#[derive(Clone, Copy)]
+#[derive(Debug, Clone, Copy, PartialEq, Eq)]
 pub enum Direction {
     Read,
     Write,
@@ -83,7 +82,7 @@ pub enum Direction {
 }
 
 // What the board is told after a cycle. A cycle that uses no byte has the address 0000 and the byte FF.
-#[derive(Clone, Copy)]
+#[derive(Debug, Clone, Copy, PartialEq, Eq)]
 pub struct Record {
     pub announcement: Announcement,
     pub direction: Direction,

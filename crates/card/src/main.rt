@@ -34,15 +34,13 @@ fn follow(rt: &HostRuntime, delay: Delay) -> io::Result<()> {
 
 // Runs idle cycles while EF1 shows, as many as granted at most, and says how many.
 fn run(board: &mut Canteen, most: u16) -> u16 {
-    let mut count = 0u16;
-    for _ in 0..most {
+    for done in 0..most {
         if !board.show(idle().announcement).ef1 {
-            break;
+            return done;
         }
         board.tell(idle());
-        count = count.saturating_add(1);
     }
-    count
+    most
 }
 
 fn print(rt: &HostRuntime, when: &str, board: &Canteen) -> io::Result<()> {
@@ -51,11 +49,11 @@ fn print(rt: &HostRuntime, when: &str, board: &Canteen) -> io::Result<()> {
     } else {
         "EF1 is off"
     };
-    let lamp = board.lamp();
-    let card = board.card();
-    let lost = board.lost();
-    let left = board.left();
     println!(rt;
-        "  {when}: {ef1}, {left} write cycles left, lamp {lamp:02X}, card {card:02X}, lost {lost}"
+        "  {when}: {ef1}, {} write cycles left, lamp {:02X}, card {:02X}, lost {}",
+        board.left(),
+        board.lamp(),
+        board.card(),
+        board.lost()
     )
 }
