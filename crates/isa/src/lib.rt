@@ -4,6 +4,7 @@
 // `instructions` the one decoding of an opcode, and `names` what Appendix A of RCA's manual calls each instruction.
 #![tactic(auto)]
 
+pub mod digit;
 pub mod instructions;
 pub mod names;
 pub mod operands;

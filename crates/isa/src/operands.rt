@@ -2,8 +2,10 @@
 ghost use Rattle.std.specs.Prelude.{◌≡◌, ◌%◌, ◌<◌};
 ghost use Rattle.isa.specs.Operands.{digit_of, register_of, number_of};
 
+use crate::digit::Digit;
+
 // One of R(0) to R(F).
-#[derive(Clone, Copy)]
+#[derive(Clone, Copy, Debug, PartialEq, Eq)]
 pub enum Register {
     R0,
     R1,
@@ -23,42 +25,31 @@ pub enum Register {
     RF,
 }
 
+// The sixteen in their order.
+#[rattlefmt::skip]
+const IN_ORDER: [Register; 16] = [
+    Register::R0, Register::R1, Register::R2, Register::R3, Register::R4, Register::R5, Register::R6, Register::R7,
+    Register::R8, Register::R9, Register::RA, Register::RB, Register::RC, Register::RD, Register::RE, Register::RF,
+];
+
 impl Register {
     // The register that the low digit of a byte names.
     pub fn of(byte: u8) -> Register
         ensures { result ≡ register_of (byte % 16) }
     {
-        match byte % 16 {
-            0x0 => Register::R0,
-            0x1 => Register::R1,
-            0x2 => Register::R2,
-            0x3 => Register::R3,
-            0x4 => Register::R4,
-            0x5 => Register::R5,
-            0x6 => Register::R6,
-            0x7 => Register::R7,
-            0x8 => Register::R8,
-            0x9 => Register::R9,
-            0xa => Register::RA,
-            0xb => Register::RB,
-            0xc => Register::RC,
-            0xd => Register::RD,
-            0xe => Register::RE,
-            _ => Register::RF,
-        }
+        IN_ORDER[usize::from(byte % 16)]
     }
 
-    // The register's number, 0 to 15.
-    pub fn digit(self) -> u8
-        ensures value { result ≡ digit_of self }
-        ensures bound { result < 16 }
+    // The register's number, as the low digit of an opcode has it.
+    pub fn digit(self) -> Digit
+        ensures { result ≡ digit_of self }
     {
-        self as u8
+        Digit { value: self as u8 }
     }
 }
 
 // One of the seven ports of INP and OUT.
-#[derive(Clone, Copy)]
+#[derive(Clone, Copy, Debug, PartialEq, Eq)]
 pub enum Port {
     P1,
     P2,
@@ -75,22 +66,13 @@ impl Port {
         ensures value { result ≡ number_of self }
         ensures bound { result < 8 }
     {
-        match self {
-            Port::P1 => 1,
-            Port::P2 => 2,
-            Port::P3 => 3,
-            Port::P4 => 4,
-            Port::P5 => 5,
-            Port::P6 => 6,
-            Port::P7 => 7,
-        }
+        1 + self as u8
     }
 }
 
-// What stands behind a name in a line of a listing.
-#[derive(Clone, Copy)]
+// What stands behind a name in a line of a listing, where anything does.
+#[derive(Clone, Copy, Debug, PartialEq, Eq)]
 pub enum Operand {
-    Nothing,
     Register(Register),
     Port(Port),
     Immediate,
