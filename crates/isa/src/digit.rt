@@ -33,12 +33,21 @@ impl Digit {
     {
         Digit { value: byte % 16 }
     }
+}
 
-    // The digit's number.
-    pub fn value(self) -> u8
-        ensures value { result ≡ self }
-        ensures bound { result < 16 }
-    {
-        self.value
+// The digit's number.
+impl From<Digit> for u8 {
+    ghost from_gives = { λ digit number. (number ≡ digit) × (number < 16) };
+
+    fn from(digit: Digit) -> u8 {
+        digit.value
+    }
+}
+
+impl From<Digit> for usize {
+    ghost from_gives = { λ digit number. (number ≡ digit) × (number < 16) };
+
+    fn from(digit: Digit) -> usize {
+        usize::from(digit.value)
     }
 }
