@@ -1,8 +1,9 @@
 // The instructions, and the one decoding of an opcode that everything above goes through.
 ghost use Rattle.std.specs.Prelude.{◌≡◌};
-ghost use Rattle.isa.specs.Instructions.{decoded};
+ghost use Rattle.isa.specs.Instructions.{decoded, class_3, class_6, class_7, class_c, class_f};
 ghost use Rattle.isa.specs.Laws.{InAppendixA, AsLongAsTable};
 
+use crate::digit::Digit;
 use crate::operands::{Port, Register};
 
 // The instructions by their names in Appendix A of RCA's manual. LDN takes R(1) to R(F): the opcode 00 is IDL.
@@ -89,50 +90,6 @@ pub enum Instruction {
     Smi,
 }
 
-// Classes 3, 7, C and F, whose low digit chooses among sixteen instructions.
-#[rattlefmt::skip]
-const CLASS_3: [Instruction; 16] = [
-    Instruction::Br, Instruction::Bq, Instruction::Bz, Instruction::Bdf,
-    Instruction::B1, Instruction::B2, Instruction::B3, Instruction::B4,
-    Instruction::Skp, Instruction::Bnq, Instruction::Bnz, Instruction::Bnf,
-    Instruction::Bn1, Instruction::Bn2, Instruction::Bn3, Instruction::Bn4,
-];
-
-#[rattlefmt::skip]
-const CLASS_7: [Instruction; 16] = [
-    Instruction::Ret, Instruction::Dis, Instruction::Ldxa, Instruction::Stxd,
-    Instruction::Adc, Instruction::Sdb, Instruction::Shrc, Instruction::Smb,
-    Instruction::Sav, Instruction::Mark, Instruction::Req, Instruction::Seq,
-    Instruction::Adci, Instruction::Sdbi, Instruction::Shlc, Instruction::Smbi,
-];
-
-#[rattlefmt::skip]
-const CLASS_C: [Instruction; 16] = [
-    Instruction::Lbr, Instruction::Lbq, Instruction::Lbz, Instruction::Lbdf,
-    Instruction::Nop, Instruction::Lsnq, Instruction::Lsnz, Instruction::Lsnf,
-    Instruction::Lskp, Instruction::Lbnq, Instruction::Lbnz, Instruction::Lbnf,
-    Instruction::Lsie, Instruction::Lsq, Instruction::Lsz, Instruction::Lsdf,
-];
-
-#[rattlefmt::skip]
-const CLASS_F: [Instruction; 16] = [
-    Instruction::Ldx, Instruction::Or, Instruction::And, Instruction::Xor,
-    Instruction::Add, Instruction::Sd, Instruction::Shr, Instruction::Sm,
-    Instruction::Ldi, Instruction::Ori, Instruction::Ani, Instruction::Xri,
-    Instruction::Adi, Instruction::Sdi, Instruction::Shl, Instruction::Smi,
-];
-
-// Class 6: the low digit is the port of OUT, or 8 more than that of INP. 60 is IRX, and 68 none.
-#[rattlefmt::skip]
-const CLASS_6: [Option<Instruction>; 16] = [
-    Some(Instruction::Irx), Some(Instruction::Out(Port::P1)), Some(Instruction::Out(Port::P2)),
-    Some(Instruction::Out(Port::P3)), Some(Instruction::Out(Port::P4)), Some(Instruction::Out(Port::P5)),
-    Some(Instruction::Out(Port::P6)), Some(Instruction::Out(Port::P7)), None,
-    Some(Instruction::Inp(Port::P1)), Some(Instruction::Inp(Port::P2)), Some(Instruction::Inp(Port::P3)),
-    Some(Instruction::Inp(Port::P4)), Some(Instruction::Inp(Port::P5)), Some(Instruction::Inp(Port::P6)),
-    Some(Instruction::Inp(Port::P7)),
-];
-
 // The instruction of an opcode; 68 has none.
 pub fn decode(opcode: u8) -> Option<Instruction>
     ensures value { result ≡ decoded opcode }
@@ -148,24 +105,145 @@ fn by_class(opcode: u8) -> Option<Instruction>
     ensures { result ≡ decoded opcode }
 {
     let register = Register::of(opcode);
-    let low = usize::from(opcode % 16);
-    Some(match opcode / 16 {
-        0x0 if low == 0 => Instruction::Idl,
+    let low = Digit::low(opcode);
+    Some(match u8::from(Digit::high(opcode)) {
+        0x0 if u8::from(low) == 0 => Instruction::Idl,
         0x0 => Instruction::Ldn(register),
         0x1 => Instruction::Inc(register),
         0x2 => Instruction::Dec(register),
-        0x3 => CLASS_3[low],
+        0x3 => class_3(low),
         0x4 => Instruction::Lda(register),
         0x5 => Instruction::Str(register),
-        0x6 => return CLASS_6[low],
-        0x7 => CLASS_7[low],
+        0x6 => return class_6(low),
+        0x7 => class_7(low),
         0x8 => Instruction::Glo(register),
         0x9 => Instruction::Ghi(register),
         0xa => Instruction::Plo(register),
         0xb => Instruction::Phi(register),
-        0xc => CLASS_C[low],
+        0xc => class_c(low),
         0xd => Instruction::Sep(register),
         0xe => Instruction::Sex(register),
-        _ => CLASS_F[low],
+        _ => class_f(low),
     })
+}
+
+// Class 3, by its low digit. This class and the next four are matches and not tables of sixteen: with tables a cycle took a
+// quarter longer.
+fn class_3(low: Digit) -> Instruction
+    ensures { result ≡ class_3 low }
+{
+    match u8::from(low) {
+        0x0 => Instruction::Br,
+        0x1 => Instruction::Bq,
+        0x2 => Instruction::Bz,
+        0x3 => Instruction::Bdf,
+        0x4 => Instruction::B1,
+        0x5 => Instruction::B2,
+        0x6 => Instruction::B3,
+        0x7 => Instruction::B4,
+        0x8 => Instruction::Skp,
+        0x9 => Instruction::Bnq,
+        0xa => Instruction::Bnz,
+        0xb => Instruction::Bnf,
+        0xc => Instruction::Bn1,
+        0xd => Instruction::Bn2,
+        0xe => Instruction::Bn3,
+        _ => Instruction::Bn4,
+    }
+}
+
+// Class 6, by its low digit.
+fn class_6(low: Digit) -> Option<Instruction>
+    ensures { result ≡ class_6 low }
+{
+    Some(match u8::from(low) {
+        0x0 => Instruction::Irx,
+        0x1 => Instruction::Out(Port::P1),
+        0x2 => Instruction::Out(Port::P2),
+        0x3 => Instruction::Out(Port::P3),
+        0x4 => Instruction::Out(Port::P4),
+        0x5 => Instruction::Out(Port::P5),
+        0x6 => Instruction::Out(Port::P6),
+        0x7 => Instruction::Out(Port::P7),
+        0x8 => return None,
+        0x9 => Instruction::Inp(Port::P1),
+        0xa => Instruction::Inp(Port::P2),
+        0xb => Instruction::Inp(Port::P3),
+        0xc => Instruction::Inp(Port::P4),
+        0xd => Instruction::Inp(Port::P5),
+        0xe => Instruction::Inp(Port::P6),
+        _ => Instruction::Inp(Port::P7),
+    })
+}
+
+// Class 7, by its low digit.
+fn class_7(low: Digit) -> Instruction
+    ensures { result ≡ class_7 low }
+{
+    match u8::from(low) {
+        0x0 => Instruction::Ret,
+        0x1 => Instruction::Dis,
+        0x2 => Instruction::Ldxa,
+        0x3 => Instruction::Stxd,
+        0x4 => Instruction::Adc,
+        0x5 => Instruction::Sdb,
+        0x6 => Instruction::Shrc,
+        0x7 => Instruction::Smb,
+        0x8 => Instruction::Sav,
+        0x9 => Instruction::Mark,
+        0xa => Instruction::Req,
+        0xb => Instruction::Seq,
+        0xc => Instruction::Adci,
+        0xd => Instruction::Sdbi,
+        0xe => Instruction::Shlc,
+        _ => Instruction::Smbi,
+    }
+}
+
+// Class C, by its low digit.
+fn class_c(low: Digit) -> Instruction
+    ensures { result ≡ class_c low }
+{
+    match u8::from(low) {
+        0x0 => Instruction::Lbr,
+        0x1 => Instruction::Lbq,
+        0x2 => Instruction::Lbz,
+        0x3 => Instruction::Lbdf,
+        0x4 => Instruction::Nop,
+        0x5 => Instruction::Lsnq,
+        0x6 => Instruction::Lsnz,
+        0x7 => Instruction::Lsnf,
+        0x8 => Instruction::Lskp,
+        0x9 => Instruction::Lbnq,
+        0xa => Instruction::Lbnz,
+        0xb => Instruction::Lbnf,
+        0xc => Instruction::Lsie,
+        0xd => Instruction::Lsq,
+        0xe => Instruction::Lsz,
+        _ => Instruction::Lsdf,
+    }
+}
+
+// Class F, by its low digit.
+fn class_f(low: Digit) -> Instruction
+    ensures { result ≡ class_f low }
+{
+    match u8::from(low) {
+        0x0 => Instruction::Ldx,
+        0x1 => Instruction::Or,
+        0x2 => Instruction::And,
+        0x3 => Instruction::Xor,
+        0x4 => Instruction::Add,
+        0x5 => Instruction::Sd,
+        0x6 => Instruction::Shr,
+        0x7 => Instruction::Sm,
+        0x8 => Instruction::Ldi,
+        0x9 => Instruction::Ori,
+        0xa => Instruction::Ani,
+        0xb => Instruction::Xri,
+        0xc => Instruction::Adi,
+        0xd => Instruction::Sdi,
+        0xe => Instruction::Shl,
+        _ => Instruction::Smi,
+    }
 }

@@ -25,19 +25,29 @@ pub enum Register {
     RF,
 }
 
-// The sixteen in their order.
-#[rattlefmt::skip]
-const IN_ORDER: [Register; 16] = [
-    Register::R0, Register::R1, Register::R2, Register::R3, Register::R4, Register::R5, Register::R6, Register::R7,
-    Register::R8, Register::R9, Register::RA, Register::RB, Register::RC, Register::RD, Register::RE, Register::RF,
-];
-
 impl Register {
     // The register that the low digit of a byte names.
     pub fn of(byte: u8) -> Register
         ensures { result ≡ register_of (byte % 16) }
     {
-        IN_ORDER[usize::from(byte % 16)]
+        match byte % 16 {
+            0x0 => Register::R0,
+            0x1 => Register::R1,
+            0x2 => Register::R2,
+            0x3 => Register::R3,
+            0x4 => Register::R4,
+            0x5 => Register::R5,
+            0x6 => Register::R6,
+            0x7 => Register::R7,
+            0x8 => Register::R8,
+            0x9 => Register::R9,
+            0xa => Register::RA,
+            0xb => Register::RB,
+            0xc => Register::RC,
+            0xd => Register::RD,
+            0xe => Register::RE,
+            _ => Register::RF,
+        }
     }
 
     // The register's number, as the low digit of an opcode has it.
