@@ -1,6 +1,6 @@
 -- What an execute cycle does at the memory.
 -- Assumes nothing.
-use Rattle.std.specs.Prelude.{ℕ, Bool, true, false}
+use Rattle.std.specs.Prelude.{ℕ, Bool, true, false, Some, None, Option}
 use Rattle.isa.specs.declared.instructions.Instruction.{Instruction}
 use Rattle.isa.specs.declared.instructions.Instruction.TheVariants.{
   Idl,
@@ -84,7 +84,7 @@ use Rattle.isa.specs.declared.instructions.Instruction.TheVariants.{
   Smi,
 }
 use Rattle.isa.specs.declared.operands.Operand.{Operand}
-use Rattle.isa.specs.declared.operands.Operand.TheVariants.{Nothing as NoOperand, Register, Port, Immediate, ShortTarget, LongTarget}
+use Rattle.isa.specs.declared.operands.Operand.TheVariants.{Register, Port, Immediate, ShortTarget, LongTarget}
 use Rattle.isa.specs.declared.operands.Register.TheVariants.{R0, R2}
 use Rattle.isa.specs.AppendixA.{appendix_a}
 use Rattle.execution.specs.declared.access.Access.{Access}
@@ -180,13 +180,13 @@ execute_access Shl s bus t = Nothing
 execute_access Smi s bus t = Reads (r_p s)
 
 -- in a second execute a long branch that is taken reads, and nothing else does
-abbrev pub second_by : Operand → Registers → Bool → Access
-second_by NoOperand s t = Nothing
-second_by (Register n) s t = Nothing
-second_by (Port port) s t = Nothing
-second_by Immediate s t = Nothing
-second_by ShortTarget s t = Nothing
-second_by LongTarget s t = operand_if t s
+abbrev pub second_by : Option Operand → Registers → Bool → Access
+second_by None s t = Nothing
+second_by (Some (Register n)) s t = Nothing
+second_by (Some (Port port)) s t = Nothing
+second_by (Some Immediate) s t = Nothing
+second_by (Some ShortTarget) s t = Nothing
+second_by (Some LongTarget) s t = operand_if t s
 
 abbrev pub second_access : Instruction → Registers → Bool → Access
 second_access i s t = second_by (appendix_a i).operand s t

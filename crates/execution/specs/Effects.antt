@@ -1,6 +1,6 @@
 -- What an execute cycle does to the registers: t says whether the instruction is taken, m is the byte that was read or written.
 -- Assumes nothing.
-use Rattle.std.specs.Prelude.{ℕ, ◌+◌, ◌*◌, ◌/◌, ◌%◌, Bool, true, false}
+use Rattle.std.specs.Prelude.{ℕ, ◌+◌, ◌*◌, ◌/◌, ◌%◌, Bool, true, false, Some, None, Option}
 use Rattle.std.specs.Int.Bits.{bit_and, bit_or, bit_xor}
 use Rattle.alu.specs.Arithmetic.{sum, carry, difference, not_below}
 use Rattle.alu.specs.Shifts.{left, left_bit, right, right_bit}
@@ -87,7 +87,7 @@ use Rattle.isa.specs.declared.instructions.Instruction.TheVariants.{
   Smi,
 }
 use Rattle.isa.specs.declared.operands.Operand.{Operand}
-use Rattle.isa.specs.declared.operands.Operand.TheVariants.{Nothing, Register, Port, Immediate, ShortTarget, LongTarget}
+use Rattle.isa.specs.declared.operands.Operand.TheVariants.{Register, Port, Immediate, ShortTarget, LongTarget}
 use Rattle.isa.specs.declared.operands.Register.TheVariants.{R2}
 use Rattle.isa.specs.AppendixA.{appendix_a}
 use Rattle.registers.specs.declared.registers.Registers.{Registers}
@@ -239,13 +239,13 @@ executed Shl t m s = shifted_left false s
 executed Smi t m s = past_operand (less_m m true s)
 
 -- the second half: a long branch has a target, a long skip and NOP have no operand
-abbrev pub ended_by : Operand → Bool → ℕ → Registers → Registers
-ended_by Nothing t m s = skipped t s
-ended_by (Register n) t m s = skipped t s
-ended_by (Port port) t m s = skipped t s
-ended_by Immediate t m s = skipped t s
-ended_by ShortTarget t m s = skipped t s
-ended_by LongTarget t m s = long_ended t m s
+abbrev pub ended_by : Option Operand → Bool → ℕ → Registers → Registers
+ended_by None t m s = skipped t s
+ended_by (Some (Register n)) t m s = skipped t s
+ended_by (Some (Port port)) t m s = skipped t s
+ended_by (Some Immediate) t m s = skipped t s
+ended_by (Some ShortTarget) t m s = skipped t s
+ended_by (Some LongTarget) t m s = long_ended t m s
 
 abbrev pub second_executed : Instruction → Bool → ℕ → Registers → Registers
 second_executed i t m s = ended_by (appendix_a i).operand t m s

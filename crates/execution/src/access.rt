@@ -58,7 +58,7 @@ pub fn second_access(instruction: Instruction, registers: &Registers, taken: boo
     ensures { result ≡ second_access instruction registers.now taken }
 {
     match instruction.operand() {
-        Operand::LongTarget => operand_if(registers, taken),
+        Some(Operand::LongTarget) => operand_if(registers, taken),
         _ => Access::Nothing,
     }
 }

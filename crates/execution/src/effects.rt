@@ -65,7 +65,7 @@ pub fn second_execute(instruction: Instruction, registers: &mut Registers, taken
     ensures { registers.new ≡ second_executed instruction taken byte registers.old }
 {
     match instruction.operand() {
-        Operand::LongTarget => end_long(registers, taken, byte),
+        Some(Operand::LongTarget) => end_long(registers, taken, byte),
         _ => skip(registers, taken),
     }
 }

@@ -1,6 +1,6 @@
 -- Every instruction is decoded from its opcode: by the instructions one at a time, and by their registers and ports.
 -- Assumes nothing.
-use Rattle.std.proofs.Common.{◌≡◌, Some, refl}
+use Rattle.std.proofs.Common.{◌≡◌, ℕ, ◌+◌, ◌*◌, ◌/◌, ◌%◌, ◌<◌, Some, refl, arith, rules}
 use Rattle.isa.specs.declared.operands.Port.TheVariants.{P1, P2, P3, P4, P5, P6, P7}
 use Rattle.isa.specs.declared.operands.Register.{Register}
 use Rattle.isa.specs.declared.operands.Register.TheVariants.{R0, R1, R2, R3, R4, R5, R6, R7, R8, R9, RA, RB, RC, RD, RE, RF}
@@ -87,32 +87,40 @@ use Rattle.isa.specs.declared.instructions.Instruction.TheVariants.{
   Smi,
 }
 use Rattle.isa.specs.AppendixA.{appendix_a}
-use Rattle.isa.specs.Instructions.{decoded}
+use Rattle.isa.specs.Instructions.{at_digits, decoded}
+use Rattle.isa.specs.Operands.{digit_of, register_of}
 use Rattle.isa.specs.Laws.{DecodesTo}
 
--- what holds of each register in turn holds of every register
-each : (P : Register → Type 0) → P R0 → P R1 → P R2 → P R3 → P R4 → P R5 → P R6 → P R7
-    → P R8 → P R9 → P RA → P RB → P RC → P RD → P RE → P RF → (r : Register) → P r
-each P p0 p1 p2 p3 p4 p5 p6 p7 p8 p9 pa pb pc pd pe pf R0 = p0
-each P p0 p1 p2 p3 p4 p5 p6 p7 p8 p9 pa pb pc pd pe pf R1 = p1
-each P p0 p1 p2 p3 p4 p5 p6 p7 p8 p9 pa pb pc pd pe pf R2 = p2
-each P p0 p1 p2 p3 p4 p5 p6 p7 p8 p9 pa pb pc pd pe pf R3 = p3
-each P p0 p1 p2 p3 p4 p5 p6 p7 p8 p9 pa pb pc pd pe pf R4 = p4
-each P p0 p1 p2 p3 p4 p5 p6 p7 p8 p9 pa pb pc pd pe pf R5 = p5
-each P p0 p1 p2 p3 p4 p5 p6 p7 p8 p9 pa pb pc pd pe pf R6 = p6
-each P p0 p1 p2 p3 p4 p5 p6 p7 p8 p9 pa pb pc pd pe pf R7 = p7
-each P p0 p1 p2 p3 p4 p5 p6 p7 p8 p9 pa pb pc pd pe pf R8 = p8
-each P p0 p1 p2 p3 p4 p5 p6 p7 p8 p9 pa pb pc pd pe pf R9 = p9
-each P p0 p1 p2 p3 p4 p5 p6 p7 p8 p9 pa pb pc pd pe pf RA = pa
-each P p0 p1 p2 p3 p4 p5 p6 p7 p8 p9 pa pb pc pd pe pf RB = pb
-each P p0 p1 p2 p3 p4 p5 p6 p7 p8 p9 pa pb pc pd pe pf RC = pc
-each P p0 p1 p2 p3 p4 p5 p6 p7 p8 p9 pa pb pc pd pe pf RD = pd
-each P p0 p1 p2 p3 p4 p5 p6 p7 p8 p9 pa pb pc pd pe pf RE = pe
-each P p0 p1 p2 p3 p4 p5 p6 p7 p8 p9 pa pb pc pd pe pf RF = pf
+-- a register is the one of its digit
+register_back : (r : Register) → register_of (digit_of r) ≡ r
+register_back R0 = refl
+register_back R1 = refl
+register_back R2 = refl
+register_back R3 = refl
+register_back R4 = refl
+register_back R5 = refl
+register_back R6 = refl
+register_back R7 = refl
+register_back R8 = refl
+register_back R9 = refl
+register_back RA = refl
+register_back RB = refl
+register_back RC = refl
+register_back RD = refl
+register_back RE = refl
+register_back RF = refl
 
--- an instruction is decoded from its opcode
-abbrev Found : Instruction → Type 0
-Found i = decoded (appendix_a i).opcode ≡ Some i
+digit_small : (r : Register) → digit_of r < 16
+digit_small r = search rules
+
+-- a class whose low digit is a register: the instruction with this register stands at its digit
+with_register : (high : ℕ) (make : Register → Instruction)
+    → ((low : ℕ) → at_digits high low ≡ Some (make (register_of low)))
+    → (r : Register) → decoded (16 * high + digit_of r) ≡ Some (make r)
+with_register high make class r =
+    let h : (16 * high + digit_of r) / 16 ≡ high = omega (arith, digit_small r) in
+    let l : (16 * high + digit_of r) % 16 ≡ digit_of r = omega (arith, digit_small r) in
+    rw (h, l, class (digit_of r), register_back r) refl
 
 pub decodes_to : (i : Instruction) → DecodesTo (appendix_a i).opcode i
 decodes_to Idl real = refl
@@ -132,8 +140,8 @@ decodes_to (Ldn RC) real = refl
 decodes_to (Ldn RD) real = refl
 decodes_to (Ldn RE) real = refl
 decodes_to (Ldn RF) real = refl
-decodes_to (Inc r) real = each (λ r. Found (Inc r)) refl refl refl refl refl refl refl refl refl refl refl refl refl refl refl refl r
-decodes_to (Dec r) real = each (λ r. Found (Dec r)) refl refl refl refl refl refl refl refl refl refl refl refl refl refl refl refl r
+decodes_to (Inc r) real = with_register 0x1 Inc (λ _. refl) r
+decodes_to (Dec r) real = with_register 0x2 Dec (λ _. refl) r
 decodes_to Br real = refl
 decodes_to Bq real = refl
 decodes_to Bz real = refl
@@ -150,8 +158,8 @@ decodes_to Bn1 real = refl
 decodes_to Bn2 real = refl
 decodes_to Bn3 real = refl
 decodes_to Bn4 real = refl
-decodes_to (Lda r) real = each (λ r. Found (Lda r)) refl refl refl refl refl refl refl refl refl refl refl refl refl refl refl refl r
-decodes_to (Str r) real = each (λ r. Found (Str r)) refl refl refl refl refl refl refl refl refl refl refl refl refl refl refl refl r
+decodes_to (Lda r) real = with_register 0x4 Lda (λ _. refl) r
+decodes_to (Str r) real = with_register 0x5 Str (λ _. refl) r
 decodes_to Irx real = refl
 decodes_to (Out P1) real = refl
 decodes_to (Out P2) real = refl
@@ -183,10 +191,10 @@ decodes_to Adci real = refl
 decodes_to Sdbi real = refl
 decodes_to Shlc real = refl
 decodes_to Smbi real = refl
-decodes_to (Glo r) real = each (λ r. Found (Glo r)) refl refl refl refl refl refl refl refl refl refl refl refl refl refl refl refl r
-decodes_to (Ghi r) real = each (λ r. Found (Ghi r)) refl refl refl refl refl refl refl refl refl refl refl refl refl refl refl refl r
-decodes_to (Plo r) real = each (λ r. Found (Plo r)) refl refl refl refl refl refl refl refl refl refl refl refl refl refl refl refl r
-decodes_to (Phi r) real = each (λ r. Found (Phi r)) refl refl refl refl refl refl refl refl refl refl refl refl refl refl refl refl r
+decodes_to (Glo r) real = with_register 0x8 Glo (λ _. refl) r
+decodes_to (Ghi r) real = with_register 0x9 Ghi (λ _. refl) r
+decodes_to (Plo r) real = with_register 0xA Plo (λ _. refl) r
+decodes_to (Phi r) real = with_register 0xB Phi (λ _. refl) r
 decodes_to Lbr real = refl
 decodes_to Lbq real = refl
 decodes_to Lbz real = refl
@@ -203,8 +211,8 @@ decodes_to Lsie real = refl
 decodes_to Lsq real = refl
 decodes_to Lsz real = refl
 decodes_to Lsdf real = refl
-decodes_to (Sep r) real = each (λ r. Found (Sep r)) refl refl refl refl refl refl refl refl refl refl refl refl refl refl refl refl r
-decodes_to (Sex r) real = each (λ r. Found (Sex r)) refl refl refl refl refl refl refl refl refl refl refl refl refl refl refl refl r
+decodes_to (Sep r) real = with_register 0xD Sep (λ _. refl) r
+decodes_to (Sex r) real = with_register 0xE Sex (λ _. refl) r
 decodes_to Ldx real = refl
 decodes_to Or real = refl
 decodes_to And real = refl

@@ -1,8 +1,8 @@
 -- What ties the decoding, Appendix A and the table together.
 -- Assumes nothing.
-use Rattle.std.specs.Prelude.{◌≡◌, ℕ, ◌+◌, Some, Option, MatchOption, ◌≢◌}
+use Rattle.std.specs.Prelude.{◌≡◌, ℕ, ◌+◌, Some, None, Option, MatchOption, ◌≢◌}
 use Rattle.isa.specs.declared.operands.Operand.{Operand}
-use Rattle.isa.specs.declared.operands.Operand.TheVariants.{Nothing, Register, Port, Immediate, ShortTarget, LongTarget}
+use Rattle.isa.specs.declared.operands.Operand.TheVariants.{Register, Port, Immediate, ShortTarget, LongTarget}
 use Rattle.isa.specs.declared.operands.Register.TheVariants.{R0}
 use Rattle.isa.specs.declared.instructions.Instruction.{Instruction}
 use Rattle.isa.specs.declared.instructions.Instruction.TheVariants.{Ldn}
@@ -15,13 +15,13 @@ abbrev pub InAppendixA : ℕ → Option Instruction → Type 0
 InAppendixA op r = MatchOption r (op ≡ 0x68) (λ i. (appendix_a i).opcode ≡ op)
 
 -- how many bytes of the code an operand takes behind the opcode
-abbrev pub operand_bytes : Operand → ℕ
-operand_bytes Nothing = 0
-operand_bytes (Register r) = 0
-operand_bytes (Port p) = 0
-operand_bytes Immediate = 1
-operand_bytes ShortTarget = 1
-operand_bytes LongTarget = 2
+abbrev pub operand_bytes : Option Operand → ℕ
+operand_bytes None = 0
+operand_bytes (Some (Register r)) = 0
+operand_bytes (Some (Port p)) = 0
+operand_bytes (Some Immediate) = 1
+operand_bytes (Some ShortTarget) = 1
+operand_bytes (Some LongTarget) = 2
 
 -- the table's length is the opcode and its operand's bytes; 68 is alone
 abbrev pub AsLongAsTable : ℕ → Option Instruction → Type 0

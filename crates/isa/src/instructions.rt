@@ -1,12 +1,13 @@
 // The instructions, and the one decoding of an opcode that everything above goes through.
-ghost use Rattle.std.specs.Prelude.{◌≡◌, ◌<◌};
+ghost use Rattle.std.specs.Prelude.{◌≡◌};
 ghost use Rattle.isa.specs.Instructions.{decoded, class_3, class_6, class_7, class_c, class_f};
 ghost use Rattle.isa.specs.Laws.{InAppendixA, AsLongAsTable};
 
+use crate::digit::Digit;
 use crate::operands::{Port, Register};
 
 // The instructions by their names in Appendix A of RCA's manual. LDN takes R(1) to R(F): the opcode 00 is IDL.
-#[derive(Clone, Copy)]
+#[derive(Clone, Copy, Debug, PartialEq, Eq)]
 pub enum Instruction {
     Idl,
     Ldn(Register),
@@ -104,9 +105,9 @@ fn by_class(opcode: u8) -> Option<Instruction>
     ensures { result ≡ decoded opcode }
 {
     let register = Register::of(opcode);
-    let low = opcode % 16;
-    Some(match opcode / 16 {
-        0x0 if low == 0 => Instruction::Idl,
+    let low = Digit::low(opcode);
+    Some(match u8::from(Digit::high(opcode)) {
+        0x0 if u8::from(low) == 0 => Instruction::Idl,
         0x0 => Instruction::Ldn(register),
         0x1 => Instruction::Inc(register),
         0x2 => Instruction::Dec(register),
@@ -126,12 +127,12 @@ fn by_class(opcode: u8) -> Option<Instruction>
     })
 }
 
-// Class 3, by its low digit.
-fn class_3(low: u8) -> Instruction
-    requires { low < 16 }
+// Class 3, by its low digit. This class and the next four are matches and not tables of sixteen: with tables a cycle took a
+// quarter longer.
+fn class_3(low: Digit) -> Instruction
     ensures { result ≡ class_3 low }
 {
-    match low {
+    match u8::from(low) {
         0x0 => Instruction::Br,
         0x1 => Instruction::Bq,
         0x2 => Instruction::Bz,
@@ -152,11 +153,10 @@ fn class_3(low: u8) -> Instruction
 }
 
 // Class 6, by its low digit.
-fn class_6(low: u8) -> Option<Instruction>
-    requires { low < 16 }
+fn class_6(low: Digit) -> Option<Instruction>
     ensures { result ≡ class_6 low }
 {
-    Some(match low {
+    Some(match u8::from(low) {
         0x0 => Instruction::Irx,
         0x1 => Instruction::Out(Port::P1),
         0x2 => Instruction::Out(Port::P2),
@@ -177,11 +177,10 @@ fn class_6(low: u8) -> Option<Instruction>
 }
 
 // Class 7, by its low digit.
-fn class_7(low: u8) -> Instruction
-    requires { low < 16 }
+fn class_7(low: Digit) -> Instruction
     ensures { result ≡ class_7 low }
 {
-    match low {
+    match u8::from(low) {
         0x0 => Instruction::Ret,
         0x1 => Instruction::Dis,
         0x2 => Instruction::Ldxa,
@@ -202,11 +201,10 @@ fn class_7(low: u8) -> Instruction
 }
 
 // Class C, by its low digit.
-fn class_c(low: u8) -> Instruction
-    requires { low < 16 }
+fn class_c(low: Digit) -> Instruction
     ensures { result ≡ class_c low }
 {
-    match low {
+    match u8::from(low) {
         0x0 => Instruction::Lbr,
         0x1 => Instruction::Lbq,
         0x2 => Instruction::Lbz,
@@ -227,11 +225,10 @@ fn class_c(low: u8) -> Instruction
 }
 
 // Class F, by its low digit.
-fn class_f(low: u8) -> Instruction
-    requires { low < 16 }
+fn class_f(low: Digit) -> Instruction
     ensures { result ≡ class_f low }
 {
-    match low {
+    match u8::from(low) {
         0x0 => Instruction::Ldx,
         0x1 => Instruction::Or,
         0x2 => Instruction::And,

@@ -2,8 +2,10 @@
 ghost use Rattle.std.specs.Prelude.{◌≡◌, ◌%◌, ◌<◌};
 ghost use Rattle.isa.specs.Operands.{digit_of, register_of, number_of};
 
+use crate::digit::Digit;
+
 // One of R(0) to R(F).
-#[derive(Clone, Copy)]
+#[derive(Clone, Copy, Debug, PartialEq, Eq)]
 pub enum Register {
     R0,
     R1,
@@ -48,17 +50,16 @@ impl Register {
         }
     }
 
-    // The register's number, 0 to 15.
-    pub fn digit(self) -> u8
-        ensures value { result ≡ digit_of self }
-        ensures bound { result < 16 }
+    // The register's number, as the low digit of an opcode has it.
+    pub fn digit(self) -> Digit
+        ensures { result ≡ digit_of self }
     {
-        self as u8
+        Digit { value: self as u8 }
     }
 }
 
 // One of the seven ports of INP and OUT.
-#[derive(Clone, Copy)]
+#[derive(Clone, Copy, Debug, PartialEq, Eq)]
 pub enum Port {
     P1,
     P2,
@@ -75,22 +76,13 @@ impl Port {
         ensures value { result ≡ number_of self }
         ensures bound { result < 8 }
     {
-        match self {
-            Port::P1 => 1,
-            Port::P2 => 2,
-            Port::P3 => 3,
-            Port::P4 => 4,
-            Port::P5 => 5,
-            Port::P6 => 6,
-            Port::P7 => 7,
-        }
+        1 + self as u8
     }
 }
 
-// What stands behind a name in a line of a listing.
-#[derive(Clone, Copy)]
+// What stands behind a name in a line of a listing, where anything does.
+#[derive(Clone, Copy, Debug, PartialEq, Eq)]
 pub enum Operand {
-    Nothing,
     Register(Register),
     Port(Port),
     Immediate,

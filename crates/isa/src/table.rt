@@ -5,7 +5,7 @@ ghost use Rattle.isa.specs.Table.{packed, entry_of};
 
 // An opcode's bytes, operand included, and its machine cycles, the fetch included.
 #[repr(C)]
-#[derive(Clone, Copy)]
+#[derive(Clone, Copy, Debug, PartialEq, Eq)]
 pub struct Entry {
     pub length: u8,
     pub cycles: u8,
@@ -36,7 +36,7 @@ const TABLE: [u8; 256] = [
 fn at_place(opcode: u8) -> u8
     ensures { result ≡ slice_index (map packed (range_with_len 0 256)) opcode }
 {
-    TABLE[opcode as usize]
+    TABLE[usize::from(opcode)]
 }
 
 // The table's number for an opcode.

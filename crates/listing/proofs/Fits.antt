@@ -3,7 +3,7 @@
 use Rattle.std.proofs.Common.{◌≡◌, ℕ, ◌+◌, ◌*◌, ◌<◌, ◌≤◌, true, false, cond, leb, List, [], ◌∷◌, length, get_or, take, Some, None, Option, refl, ap, ◌∙◌, arith, lit≤, rules}
 use Rattle.std.proofs.lemmas.List.{length-append, length-take, take_all}
 use Rattle.isa.specs.declared.operands.Operand.{Operand}
-use Rattle.isa.specs.declared.operands.Operand.TheVariants.{Nothing, Register, Port, Immediate, ShortTarget, LongTarget}
+use Rattle.isa.specs.declared.operands.Operand.TheVariants.{Register, Port, Immediate, ShortTarget, LongTarget}
 use Rattle.isa.specs.declared.instructions.Instruction.{Instruction}
 use Rattle.isa.specs.declared.instructions.Instruction.TheVariants.{
   Idl,
@@ -175,13 +175,13 @@ name_fits Sdi = lit≤ tt
 name_fits Shl = lit≤ tt
 name_fits Smi = lit≤ tt
 
-operand_fits : (operand : Operand) (address : ℕ) (bytes : List ℕ) → length (operand_text operand address bytes) ≤ 5
-operand_fits Nothing address bytes = lit≤ tt
-operand_fits (Register r) address bytes = lit≤ tt
-operand_fits (Port p) address bytes = lit≤ tt
-operand_fits Immediate address bytes = lit≤ tt
-operand_fits ShortTarget address bytes = lit≤ tt
-operand_fits LongTarget address bytes = lit≤ tt
+operand_fits : (operand : Option Operand) (address : ℕ) (bytes : List ℕ) → length (operand_text operand address bytes) ≤ 5
+operand_fits None address bytes = lit≤ tt
+operand_fits (Some (Register r)) address bytes = lit≤ tt
+operand_fits (Some (Port p)) address bytes = lit≤ tt
+operand_fits (Some Immediate) address bytes = lit≤ tt
+operand_fits (Some ShortTarget) address bytes = lit≤ tt
+operand_fits (Some LongTarget) address bytes = lit≤ tt
 
 length-hexes : (bytes : List ℕ) → length (hexes bytes) ≡ 2 * length bytes
 length-hexes [] = refl

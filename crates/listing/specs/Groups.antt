@@ -4,7 +4,7 @@ use Rattle.std.specs.Prelude.{◌≡◌, ℕ, ◌<◌, ◌≤◌, cond, List, le
 use Rattle.std.specs.Borrow.{Bor}
 use Rattle.isa.specs.declared.instructions.Instruction.{Instruction}
 use Rattle.isa.specs.declared.operands.Operand.{Operand}
-use Rattle.isa.specs.declared.operands.Operand.TheVariants.{Nothing, Register, Port, Immediate as immediate, ShortTarget, LongTarget}
+use Rattle.isa.specs.declared.operands.Operand.TheVariants.{Register, Port, Immediate as immediate, ShortTarget, LongTarget}
 use Rattle.isa.specs.AppendixA.{appendix_a}
 use Rattle.isa.specs.Instructions.{decoded}
 use Rattle.isa.specs.Table.{length_of}
@@ -18,13 +18,13 @@ pub record Said : Type 0 where
   pub bytes : List ℕ
 
 -- 0 one byte, 1 immediate, 2 short branch, 3 long branch
-abbrev pub kind_of : Operand → ℕ
-kind_of Nothing = 0
-kind_of (Register r) = 0
-kind_of (Port p) = 0
-kind_of immediate = 1
-kind_of ShortTarget = 2
-kind_of LongTarget = 3
+abbrev pub kind_of : Option Operand → ℕ
+kind_of None = 0
+kind_of (Some (Register r)) = 0
+kind_of (Some (Port p)) = 0
+kind_of (Some immediate) = 1
+kind_of (Some ShortTarget) = 2
+kind_of (Some LongTarget) = 3
 
 -- an instruction with its operand's bytes
 abbrev pub instructed : ℕ → Instruction → List ℕ → Said

@@ -4,7 +4,7 @@ use Rattle.std.specs.Prelude.{◌≡◌, ℕ, ◌+◌, ◌*◌, ◌/◌, ◌%◌
 use Rattle.std.specs.List.{flat_map}
 use Rattle.isa.specs.declared.instructions.Instruction.{Instruction}
 use Rattle.isa.specs.declared.operands.Operand.{Operand}
-use Rattle.isa.specs.declared.operands.Operand.TheVariants.{Nothing, Register, Port, Immediate, ShortTarget, LongTarget}
+use Rattle.isa.specs.declared.operands.Operand.TheVariants.{Register, Port, Immediate, ShortTarget, LongTarget}
 use Rattle.isa.specs.AppendixA.{appendix_a}
 use Rattle.isa.specs.Operands.{digit_of, number_of}
 use Rattle.listing.specs.declared.line.Line.{Line}
@@ -38,14 +38,14 @@ hexes = flat_map hex2
 abbrev pub short_target : ℕ → ℕ → ℕ
 short_target address low = address / 256 * 256 + low
 
--- an operand, behind a space
-abbrev pub operand_text : Operand → ℕ → List ℕ → List ℕ
-operand_text Nothing address bytes = []
-operand_text (Register r) address bytes = codes " R" ++ hex_digit (digit_of r) ∷ []
-operand_text (Port p) address bytes = codes " " ++ hex_digit (number_of p) ∷ []
-operand_text Immediate address bytes = codes " " ++ hex2 (slice_index bytes 1)
-operand_text ShortTarget address bytes = codes " " ++ hex4 (short_target address (slice_index bytes 1))
-operand_text LongTarget address bytes = codes " " ++ hex4 (slice_index bytes 1 * 256 + slice_index bytes 2)
+-- an operand, behind a space; nothing where there is none
+abbrev pub operand_text : Option Operand → ℕ → List ℕ → List ℕ
+operand_text None address bytes = []
+operand_text (Some (Register r)) address bytes = codes " R" ++ hex_digit (digit_of r) ∷ []
+operand_text (Some (Port p)) address bytes = codes " " ++ hex_digit (number_of p) ∷ []
+operand_text (Some Immediate) address bytes = codes " " ++ hex2 (slice_index bytes 1)
+operand_text (Some ShortTarget) address bytes = codes " " ++ hex4 (short_target address (slice_index bytes 1))
+operand_text (Some LongTarget) address bytes = codes " " ++ hex4 (slice_index bytes 1 * 256 + slice_index bytes 2)
 
 -- a group's name and its operand; BYTE's operand is the byte
 abbrev pub named_by : Option Instruction → ℕ → List ℕ → List ℕ

@@ -78,11 +78,11 @@ fn grouped<'a>(instruction: Instruction, bytes: &'a [u8]) -> Group<'a>
     ensures { said result ≡ whole instruction bytes.now }
 {
     match instruction.operand() {
-        Operand::Nothing => Group::OneByte(instruction, bytes),
-        Operand::Register(_) => Group::OneByte(instruction, bytes),
-        Operand::Port(_) => Group::OneByte(instruction, bytes),
-        Operand::Immediate => Group::Immediate(instruction, bytes),
-        Operand::ShortTarget => Group::ShortBranch(instruction, bytes),
-        Operand::LongTarget => Group::LongBranch(instruction, bytes),
+        None => Group::OneByte(instruction, bytes),
+        Some(Operand::Register(_)) => Group::OneByte(instruction, bytes),
+        Some(Operand::Port(_)) => Group::OneByte(instruction, bytes),
+        Some(Operand::Immediate) => Group::Immediate(instruction, bytes),
+        Some(Operand::ShortTarget) => Group::ShortBranch(instruction, bytes),
+        Some(Operand::LongTarget) => Group::LongBranch(instruction, bytes),
     }
 }

@@ -5,13 +5,14 @@ ghost use Rattle.listing.specs.Text.{text_of, Grew, hex_digit, hex2, hex4, hexes
 
 use crate::groups::Group;
 use crate::line::Line;
+use isa::digit::Digit;
 use isa::operands::Operand;
 
-// The digit, in capitals, of a number below 16.
-fn hex_digit(n: u8) -> u8
-    requires { n < 16 }
-    ensures { result ≡ hex_digit n }
+// How a digit is written, in capitals.
+fn hex_digit(digit: Digit) -> u8
+    ensures { result ≡ hex_digit digit }
 {
+    let n = u8::from(digit);
     if n < 10 { b'0' + n } else { b'A' + (n - 10) }
 }
 
@@ -72,8 +73,8 @@ impl Line {
     fn put_byte(&mut self, byte: u8)
         ensures { Grew (text_of self.old) (hex2 byte) (text_of self.new) }
     {
-        self.put(hex_digit(byte / 16));
-        self.put(hex_digit(byte % 16));
+        self.put(hex_digit(Digit::high(byte)));
+        self.put(hex_digit(Digit::low(byte)));
     }
 
     // An address as four digits.
@@ -93,27 +94,30 @@ impl Line {
         }
     }
 
-    // The operand of an instruction, behind a space.
-    fn put_operand(&mut self, operand: Operand, address: u16, bytes: &[u8])
+    // The operand of an instruction, behind a space; nothing where there is none.
+    fn put_operand(&mut self, operand: Option<Operand>, address: u16, bytes: &[u8])
         ensures { Grew (text_of self.old) (operand_text operand address bytes.now) (text_of self.new) }
     {
         match operand {
-            Operand::Nothing => self.put_text(b""),
-            Operand::Register(register) => self.put_text(&[
+            None => self.put_text(b""),
+            Some(Operand::Register(register)) => self.put_text(&[
                 b' ',
                 b'R',
                 hex_digit(register.digit()),
             ]),
-            Operand::Port(port) => self.put_text(&[b' ', hex_digit(port.number())]),
-            Operand::Immediate => {
+            Some(Operand::Port(port)) => self.put_text(&[
+                b' ',
+                hex_digit(Digit::low(port.number())),
+            ]),
+            Some(Operand::Immediate) => {
                 self.put_space();
                 self.put_byte(byte_at(bytes, 1));
             }
-            Operand::ShortTarget => {
+            Some(Operand::ShortTarget) => {
                 self.put_space();
                 self.put_address(short_target(address, byte_at(bytes, 1)));
             }
-            Operand::LongTarget => {
+            Some(Operand::LongTarget) => {
                 self.put_space();
                 self.put_address(byte_at(bytes, 1) as u16 * 256 + byte_at(bytes, 2) as u16);
             }

@@ -1,6 +1,6 @@
 -- What an execute leaves as it was: the opcode always, and DF unless the instruction is arithmetic or a shift.
 -- Assumes nothing.
-use Rattle.std.proofs.Common.{◌≡◌, ℕ, Bool, true, false, refl, arith}
+use Rattle.std.proofs.Common.{◌≡◌, ℕ, Bool, true, false, Some, None, Option, refl, arith}
 use Rattle.isa.specs.AppendixA.{appendix_a}
 use Rattle.isa.specs.declared.instructions.Instruction.{Instruction}
 use Rattle.isa.specs.declared.instructions.Instruction.TheVariants.{
@@ -85,7 +85,7 @@ use Rattle.isa.specs.declared.instructions.Instruction.TheVariants.{
   Smi,
 }
 use Rattle.isa.specs.declared.operands.Operand.{Operand}
-use Rattle.isa.specs.declared.operands.Operand.TheVariants.{Nothing, Register, Port, Immediate, ShortTarget, LongTarget}
+use Rattle.isa.specs.declared.operands.Operand.TheVariants.{Register, Port, Immediate, ShortTarget, LongTarget}
 use Rattle.registers.specs.declared.registers.Registers.{Registers}
 use Rattle.execution.specs.Effects.{branched, long_begun, long_ended, skipped, ended_by, executed, second_executed}
 use Rattle.processor.specs.Laws.{alters_df}
@@ -117,13 +117,13 @@ module _ {b : Bool} where
   skips true s = both refl refl
   skips false s = both refl refl
 
-  by_operand : (o : Operand) (t : Bool) (m : ℕ) (s : Registers) → Kept b s (ended_by o t m s)
-  by_operand Nothing t m s = skips t s
-  by_operand (Register n) t m s = skips t s
-  by_operand (Port p) t m s = skips t s
-  by_operand Immediate t m s = skips t s
-  by_operand ShortTarget t m s = skips t s
-  by_operand LongTarget t m s = ended t m s
+  by_operand : (o : Option Operand) (t : Bool) (m : ℕ) (s : Registers) → Kept b s (ended_by o t m s)
+  by_operand None t m s = skips t s
+  by_operand (Some (Register n)) t m s = skips t s
+  by_operand (Some (Port p)) t m s = skips t s
+  by_operand (Some Immediate) t m s = skips t s
+  by_operand (Some ShortTarget) t m s = skips t s
+  by_operand (Some LongTarget) t m s = ended t m s
 
   pub second_kept : (i : Instruction) (t : Bool) (m : ℕ) (s : Registers) → Kept b s (second_executed i t m s)
   second_kept i t m s = by_operand (appendix_a i).operand t m s

@@ -33,7 +33,7 @@ impl Cycle {
         ensures { result ≡ lines_of self registers.now }
     {
         match self {
-            Cycle::Execute(_) if registers.i() == 0x6 => registers.n() % 8,
+            Cycle::Execute(_) if u8::from(registers.i()) == 0x6 => u8::from(registers.n()) % 8,
             _ => 0,
         }
     }
@@ -116,7 +116,7 @@ impl Cycle {
         match self {
             Cycle::Fetch if registers.opcode == 0x68 => Coming::Stopped,
             Cycle::Fetch => Coming::Execute,
-            Cycle::Execute(_) if registers.i() == 0xc => Coming::SecondExecute,
+            Cycle::Execute(_) if u8::from(registers.i()) == 0xc => Coming::SecondExecute,
             Cycle::Execute(_) if registers.opcode == 0x00 => serve(
                 mode,
                 show,

@@ -15,8 +15,8 @@ fn ret_steps_the_register_of_the_old_x(rt: HostRuntime) -> Result<(), Fail> {
     bench.cpu.registers.ie = false;
     bench.cpu.registers.set_reg(Register::R2, 0x8000);
     bench.run(2);
-    assert_eq!(rt; bench.cpu.registers.x.digit(), 5);
-    assert_eq!(rt; bench.cpu.registers.p.digit(), 3);
+    assert_eq!(rt; bench.cpu.registers.x, Register::R5);
+    assert_eq!(rt; bench.cpu.registers.p, Register::R3);
     assert_eq!(rt; bench.r(Register::R2), 0x8001);
     assert_eq!(rt; bench.r(Register::R5), 0x0000);
     assert!(rt; bench.cpu.registers.ie);
@@ -31,7 +31,7 @@ fn dis_steps_the_old_x_too_and_shuts_interrupts_out(rt: HostRuntime) -> Result<(
     bench.cpu.registers.x = Register::R2;
     bench.cpu.registers.set_reg(Register::R2, 0x0010);
     bench.run(2);
-    assert_eq!(rt; bench.cpu.registers.x.digit(), 5);
+    assert_eq!(rt; bench.cpu.registers.x, Register::R5);
     assert_eq!(rt; bench.r(Register::R2), 0x0011);
     assert!(rt; !bench.cpu.registers.ie);
     Ok(())
@@ -207,7 +207,7 @@ fn mark_writes_at_r2_and_not_at_r_x(rt: HostRuntime) -> Result<(), Fail> {
         0xa0,
     )?;
     assert_eq!(rt; bench.cpu.registers.t, 0xa0);
-    assert_eq!(rt; bench.cpu.registers.x.digit(), 0);
+    assert_eq!(rt; bench.cpu.registers.x, Register::R0);
     assert_eq!(rt; bench.r(Register::R2), 0x000f);
     Ok(())
 }
@@ -241,8 +241,8 @@ fn opcode_68_stops_the_processor(rt: HostRuntime) -> Result<(), Fail> {
     )?;
     comes(&rt, &bench, Coming::Stopped);
     assert!(rt; bench.turn().is_none());
-    assert_eq!(rt; bench.cpu.registers.i(), 0x6);
-    assert_eq!(rt; bench.cpu.registers.n(), 0x8);
+    assert_eq!(rt; u8::from(bench.cpu.registers.i()), 0x6);
+    assert_eq!(rt; u8::from(bench.cpu.registers.n()), 0x8);
     assert_eq!(rt; bench.r(Register::R0), 0x0001);
     Ok(())
 }

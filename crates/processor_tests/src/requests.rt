@@ -85,8 +85,8 @@ fn dma_in_goes_before_dma_out_and_both_before_interrupt(rt: HostRuntime) -> Resu
         0xff,
     )?;
     assert_eq!(rt; bench.cpu.registers.t, 0x00);
-    assert_eq!(rt; bench.cpu.registers.x.digit(), 2);
-    assert_eq!(rt; bench.cpu.registers.p.digit(), 1);
+    assert_eq!(rt; bench.cpu.registers.x, Register::R2);
+    assert_eq!(rt; bench.cpu.registers.p, Register::R1);
     assert!(rt; !bench.cpu.registers.ie);
     Ok(())
 }
@@ -145,6 +145,6 @@ fn ret_lets_an_interrupt_in_at_once(rt: HostRuntime) -> Result<(), Fail> {
     bench.board = Script::new(vec![in heap; interrupt(), interrupt()]?);
     bench.run(2);
     comes(&rt, &bench, Coming::Interrupt);
-    assert_eq!(rt; bench.cpu.registers.p.digit(), 3);
+    assert_eq!(rt; bench.cpu.registers.p, Register::R3);
     Ok(())
 }

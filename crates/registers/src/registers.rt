@@ -1,7 +1,8 @@
 // The processor's registers.
-ghost use Rattle.std.specs.Prelude.{◌≡◌, ◌<◌};
+ghost use Rattle.std.specs.Prelude.{◌≡◌};
 ghost use Rattle.registers.specs.Registers.{Sized, class_i, digit_n, fresh};
 
+use isa::digit::Digit;
 use isa::operands::Register;
 
 // X and P are one of sixteen by their type, I and N by being the digits of a byte.
@@ -43,19 +44,17 @@ impl Registers {
     }
 
     // I, the class of the opcode that was fetched last.
-    pub fn i(&self) -> u8
-        ensures value { result ≡ class_i self.now }
-        ensures bound { result < 16 }
+    pub fn i(&self) -> Digit
+        ensures { result ≡ class_i self.now }
     {
-        self.opcode / 16
+        Digit::high(self.opcode)
     }
 
     // N, its low digit.
-    pub fn n(&self) -> u8
-        ensures value { result ≡ digit_n self.now }
-        ensures bound { result < 16 }
+    pub fn n(&self) -> Digit
+        ensures { result ≡ digit_n self.now }
     {
-        self.opcode % 16
+        Digit::low(self.opcode)
     }
 
     // There are sixteen R registers, and D, T, B and the opcode are bytes. A proof learns that of registers that it looks

@@ -33,7 +33,7 @@ impl Registers {
     pub fn xp(&self) -> u8
         ensures { result ≡ xp self.now }
     {
-        16 * self.x.digit() + self.p.digit()
+        16 * u8::from(self.x.digit()) + u8::from(self.p.digit())
     }
 
     // A word → R(W), and no other register changes.
