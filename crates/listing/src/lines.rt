@@ -1,7 +1,6 @@
 // One line into a caller's buffer.
 ghost use Rattle.std.specs.Prelude.{◌≡◌, ◌≤◌, length, IfOk};
 ghost use Rattle.listing.specs.Lines.{answered, lengths_at, line_answer, line_at, line_buffer, number_of, overwritten};
-ghost use Rattle.listing.specs.Text.{text_of};
 
 use crate::groups::first_group;
 use crate::line::Line;
@@ -64,7 +63,7 @@ fn write_first(address: u16, code: &[u8], buffer: &mut [u8]) -> Listed
 // A line over the first bytes of a buffer that is long enough.
 fn put_line(buffer: &mut [u8], line: &Line)
     requires { 24 ≤ length buffer.old }
-    ensures { buffer.new ≡ overwritten (text_of line.now) buffer.old }
+    ensures { buffer.new ≡ overwritten line.now buffer.old }
 {
     let text = line.text();
     buffer[0..text.len()].copy_from_slice(text);

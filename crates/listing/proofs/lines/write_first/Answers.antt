@@ -1,15 +1,14 @@
 use Rattle.std.proofs.Common.{◌≡◌, ℕ, List, length, ap, ◌∙◌, arith}
 use Rattle.listing.specs.Groups.{said}
 use Rattle.listing.specs.Lines.{group_size, line_at, overwritten}
-use Rattle.listing.specs.Text.{text_of}
 use Rattle.listing.proofs.Fits.{line_at_fits, whole_line, whole_size}
 use Rattle.listing.proofs.Parts.{sized}
 use Rattle.listing.proofs.lines.write_first.Goals as goal
 
 pub returns : goal.returns
 returns c =
-    let line : text_of c.of-line.result ≡ line_at c.args.address c.args.code.now =
-    whole_line c.args.address c.args.code.now (text_of c.of-line.result) (said c.in-Some.group)
+    let line : c.of-line.result ≡ line_at c.args.address c.args.code.now =
+    whole_line c.args.address c.args.code.now c.of-line.result (said c.in-Some.group)
     c.in-Some.ensures.0 c.in-Some.ensures.1 c.of-line.ensures
     in
     let length-of : length c.text.result.now ≡ length (line_at c.args.address c.args.code.now) =

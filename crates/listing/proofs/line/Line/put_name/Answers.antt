@@ -11,11 +11,11 @@ returns-in-Some c =
     named_some c.args.address (said c.args.group) c.in-Some.instruction
     (sym c.instruction.ensures ∙ c.in-Some.is)
     in
-    spelt (named_text c.args.address (said c.args.group)) (cc) (also c.put_text.ensures c.put_operand.ensures)
+    spelt (named_text c.args.address (said c.args.group)) (cc) (also c.put.ensures c.put_operand.ensures)
 
 pub returns-in-None : goal.returns-in-None
 returns-in-None c =
     let named =
     named_none c.args.address (said c.args.group) (sym c.instruction.ensures ∙ c.in-None.is)
     in
-    spelt (named_text c.args.address (said c.args.group)) (cc) (also c.put_text-in-None.ensures c.put_byte.ensures)
+    spelt (named_text c.args.address (said c.args.group)) (cc) (also c.put-in-None.ensures c.put_hex.ensures)
