@@ -4,6 +4,7 @@ ghost use Rattle.isa.specs.Table.{entry_of};
 ghost use Rattle.listing.specs.Lines.{line_answer, line_buffer};
 ghost use Rattle.listing.specs.ForC.{told};
 
+use crate::code::Code;
 use crate::lines::list_line;
 use isa::table::Entry;
 
@@ -28,7 +29,13 @@ pub fn station_list_line(address: u16, code: &[u8], buffer: &mut [u8]) -> LineAn
     ensures answer { told result ≡ line_answer address code.now buffer.old }
     ensures buffer { buffer.new ≡ line_buffer address code.now buffer.old }
 {
-    match list_line(address, code, buffer) {
+    match list_line(
+        Code {
+            address,
+            bytes: code,
+        },
+        buffer,
+    ) {
         Ok(listed) => LineAnswer {
             number: 0,
             line: listed.line as u8,

@@ -2,7 +2,7 @@
 ghost use Rattle.std.specs.Prelude.{◌≡◌, ◌≤◌, length, IfOk};
 ghost use Rattle.listing.specs.Lines.{answered, lengths_at, line_answer, line_at, line_buffer, number_of, overwritten};
 
-use crate::groups::first_group;
+use crate::code::Code;
 use crate::line::Line;
 
 // How many bytes the line and the group have; both are 0 where there is no code.
@@ -31,32 +31,32 @@ impl Refusal {
 }
 
 // Writes the line of the first group into the buffer, whose other bytes stay.
-pub fn list_line(address: u16, code: &[u8], buffer: &mut [u8]) -> Result<Listed, Refusal>
-    ensures answer { answered result ≡ line_answer address code.now buffer.old }
+pub fn list_line(code: Code<'_>, buffer: &mut [u8]) -> Result<Listed, Refusal>
+    ensures answer { answered result ≡ line_answer code.entry.address code.entry.bytes.now buffer.old }
     ensures bound { IfOk result (λ l. (l.line ≤ 22) × (l.group ≤ 3)) }
-    ensures buffer { buffer.new ≡ line_buffer address code.now buffer.old }
+    ensures buffer { buffer.new ≡ line_buffer code.entry.address code.entry.bytes.now buffer.old }
 {
     if buffer.len() < 24 {
         return Err(Refusal::ShortBuffer);
     }
-    Ok(write_first(address, code, buffer))
+    Ok(write_first(code, buffer))
 }
 
 // Writes the line of the first group, if there is one, into a buffer that is long enough.
-fn write_first(address: u16, code: &[u8], buffer: &mut [u8]) -> Listed
+fn write_first(mut code: Code<'_>, buffer: &mut [u8]) -> Listed
     requires { 24 ≤ length buffer.old }
-    ensures lengths { result ≡ lengths_at address code.now }
+    ensures lengths { result ≡ lengths_at code.entry.address code.entry.bytes.now }
     ensures bound { (result.line ≤ 22) × (result.group ≤ 3) }
-    ensures buffer { buffer.new ≡ overwritten (line_at address code.now) buffer.old }
+    ensures buffer { buffer.new ≡ overwritten (line_at code.entry.address code.entry.bytes.now) buffer.old }
 {
-    let Some(group) = first_group(code) else {
+    let Some(placed) = code.next() else {
         return Listed { line: 0, group: 0 };
     };
-    let line = Line::of(address, group);
+    let line = Line::of(placed);
     put_line(buffer, &line);
     Listed {
         line: line.text().len(),
-        group: group.bytes().len(),
+        group: placed.group.bytes().len(),
     }
 }
 

@@ -1,4 +1,5 @@
 // Lines whose text a site's programmer would write down.
+use crate::code::Code;
 use crate::lines::list_line;
 use crate::program::list_program;
 use std::process::Abort;
@@ -13,7 +14,13 @@ fn listed(
     group: usize,
 ) -> Result<(), Fail> {
     let mut buffer = [b'.'; 24];
-    let Ok(answer) = list_line(address, code, &mut buffer) else {
+    let Ok(answer) = list_line(
+        Code {
+            address,
+            bytes: code,
+        },
+        &mut buffer,
+    ) else {
         return Err(Fail::new("a buffer of 24 bytes is refused"));
     };
     assert_eq!(rt; answer.line, text.len());
@@ -31,7 +38,13 @@ fn load_immediate(rt: HostRuntime) -> Result<(), Fail> {
 
 #[test]
 fn a_cut_long_branch_is_a_byte(rt: HostRuntime) -> Result<(), Fail> {
-    let listing = list_program(Vec::new(rt.alloc()), 0, &[0xc3, 0x2f])?;
+    let listing = list_program(
+        Vec::new(rt.alloc()),
+        Code {
+            address: 0,
+            bytes: &[0xc3, 0x2f],
+        },
+    )?;
     assert!(rt; listing.text.as_slice() == b"0000 C3 BYTE C3\n0001 2F DEC RF\n".as_slice());
     assert_eq!(rt; listing.instructions, 1);
     assert_eq!(rt; listing.byte_groups, 1);
@@ -40,7 +53,13 @@ fn a_cut_long_branch_is_a_byte(rt: HostRuntime) -> Result<(), Fail> {
 
 #[test]
 fn addresses_wrap(rt: HostRuntime) -> Result<(), Fail> {
-    let listing = list_program(Vec::new(rt.alloc()), 0xffff, &[0x30, 0x07, 0xe1])?;
+    let listing = list_program(
+        Vec::new(rt.alloc()),
+        Code {
+            address: 0xffff,
+            bytes: &[0x30, 0x07, 0xe1],
+        },
+    )?;
     assert!(rt; listing.text.as_slice() == b"FFFF 3007 BR FF07\n0001 E1 SEX R1\n".as_slice());
     Ok(())
 }
@@ -48,7 +67,13 @@ fn addresses_wrap(rt: HostRuntime) -> Result<(), Fail> {
 #[test]
 fn no_code_gives_no_line(rt: HostRuntime) -> Result<(), Fail> {
     listed(&rt, 0x1234, &[], b"", 0)?;
-    let listing = list_program(Vec::new(rt.alloc()), 0, &[])?;
+    let listing = list_program(
+        Vec::new(rt.alloc()),
+        Code {
+            address: 0,
+            bytes: &[],
+        },
+    )?;
     assert!(rt; listing.text.is_empty());
     Ok(())
 }
@@ -56,7 +81,13 @@ fn no_code_gives_no_line(rt: HostRuntime) -> Result<(), Fail> {
 #[test]
 fn a_buffer_of_23_bytes_is_refused(rt: HostRuntime) -> Result<(), Fail> {
     let mut buffer = [b'.'; 23];
-    let Err(refusal) = list_line(0, &[0xf8, 0x0a], &mut buffer) else {
+    let Err(refusal) = list_line(
+        Code {
+            address: 0,
+            bytes: &[0xf8, 0x0a],
+        },
+        &mut buffer,
+    ) else {
         return Err(Fail::new("a buffer of 23 bytes is taken"));
     };
     assert_eq!(rt; refusal.number(), 4);

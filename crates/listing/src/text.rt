@@ -1,9 +1,9 @@
 // How the line of a group is written: its address, its bytes, its name and its operand.
 ghost use Rattle.std.specs.Prelude.{◌≡◌, ◌<◌, [], ◌∷◌, take, slice_index};
 ghost use Rattle.listing.specs.Groups.{said};
-ghost use Rattle.listing.specs.Text.{Grew, hex_digit, hex2, hexes, operand_text, named_text, line_text};
+ghost use Rattle.listing.specs.Text.{Grew, hex_digit, hex2, hex4, hexes, operand_text, named_text, line_text};
 
-use crate::groups::Group;
+use crate::code::Placed;
 use crate::line::Line;
 use isa::operands::Operand;
 
@@ -34,6 +34,13 @@ impl Line {
         }
     }
 
+    // An address as four digits.
+    fn put_address(&mut self, address: u16)
+        ensures { Grew self.old (hex4 address) self.new }
+    {
+        self.put_hex(&address.to_be_bytes());
+    }
+
     // The operand of an instruction, behind a space.
     fn put_operand(&mut self, operand: Operand, address: u16, bytes: &[u8])
         ensures { Grew self.old (operand_text operand address bytes.now) self.new }
@@ -60,39 +67,40 @@ impl Line {
     }
 
     // The name of a group and its operand; BYTE's operand is the byte.
-    fn put_name(&mut self, address: u16, group: Group<'_>)
-        ensures { Grew self.old (named_text address (said group.entry)) self.new }
+    fn put_name(&mut self, placed: Placed<'_>)
+        ensures { Grew self.old (named_text placed.entry.address (said placed.entry.group)) self.new }
     {
-        match group.instruction() {
+        let bytes = placed.group.bytes();
+        match placed.group.instruction() {
             Some(instruction) => {
                 self.put(instruction.name().as_bytes());
-                self.put_operand(instruction.operand(), address, group.bytes());
+                self.put_operand(instruction.operand(), placed.address, bytes);
             }
             None => {
                 self.put(b"BYTE ");
-                self.put_hex(&[byte_at(group.bytes(), 0)]);
+                self.put_hex(&[byte_at(bytes, 0)]);
             }
         }
     }
 
     // The line of a group at an address.
-    pub fn of(address: u16, group: Group<'_>) -> Line
-        ensures { result ≡ take 24 (line_text address (said group.entry)) }
+    pub fn of(placed: Placed<'_>) -> Line
+        ensures { result ≡ take 24 (line_text placed.entry.address (said placed.entry.group)) }
     {
         let mut line = Line::empty();
-        line.put_group(address, group);
+        line.put_group(placed);
         line
     }
 
     // Address, bytes, name and operand, parted by single spaces, and the line's end.
-    fn put_group(&mut self, address: u16, group: Group<'_>)
-        ensures { Grew self.old (line_text address (said group.entry)) self.new }
+    fn put_group(&mut self, placed: Placed<'_>)
+        ensures { Grew self.old (line_text placed.entry.address (said placed.entry.group)) self.new }
     {
-        self.put_hex(&address.to_be_bytes());
+        self.put_address(placed.address);
         self.put(b" ");
-        self.put_hex(group.bytes());
+        self.put_hex(placed.group.bytes());
         self.put(b" ");
-        self.put_name(address, group);
+        self.put_name(placed);
         self.put(b"\n");
     }
 }

@@ -8,14 +8,14 @@ use Rattle.listing.proofs.line.Line.put_name.Goals as goal
 pub returns-in-Some : goal.returns-in-Some
 returns-in-Some c =
     let named =
-    named_some c.args.address (said c.args.group) c.in-Some.instruction
+    named_some c.args.placed.address (said c.args.placed.group) c.in-Some.instruction
     (sym c.instruction.ensures ∙ c.in-Some.is)
     in
-    spelt (named_text c.args.address (said c.args.group)) (cc) (also c.put.ensures c.put_operand.ensures)
+    spelt (named_text c.args.placed.address (said c.args.placed.group)) (cc) (also c.put.ensures c.put_operand.ensures)
 
 pub returns-in-None : goal.returns-in-None
 returns-in-None c =
     let named =
-    named_none c.args.address (said c.args.group) (sym c.instruction.ensures ∙ c.in-None.is)
+    named_none c.args.placed.address (said c.args.placed.group) (sym c.instruction.ensures ∙ c.in-None.is)
     in
-    spelt (named_text c.args.address (said c.args.group)) (cc) (also c.put-in-None.ensures c.put_hex.ensures)
+    spelt (named_text c.args.placed.address (said c.args.placed.group)) (cc) (also c.put-in-None.ensures c.put_hex.ensures)
