@@ -1,11 +1,11 @@
 -- Texts that grow on a line, one piece after another.
 -- Assumes nothing.
-use Rattle.std.proofs.Common.{◌≡◌, ℕ, zero, suc, ◌+◌, ◌-◌, ◌*◌, ◌/◌, ◌%◌, ◌^◌, ◌<◌, ◌≤◌, min, List, [], ◌∷◌, ◌++◌, length, get_or, take, sym, refl, ap, ◌∙◌, subst, append_assoc, append-nil, arith}
+use Rattle.std.proofs.Common.{◌≡◌, ℕ, zero, suc, ◌+◌, ◌-◌, ◌/◌, ◌%◌, ◌^◌, ◌<◌, ◌≤◌, min, List, [], ◌∷◌, ◌++◌, length, get_or, take, sym, refl, ap, ◌∙◌, subst, append_assoc, append-nil, arith}
 use Rattle.std.proofs.lemmas.List.{flat_map_more, take_all, take_min, take_more}
 use Rattle.std.proofs.Math.Seq.{take-append-add}
 use Rattle.std.specs.Int.{w16, to_be_bytes}
 use Rattle.std.specs.List.{flat_map}
-use Rattle.listing.specs.Text.{Grew, hex4, hexes}
+use Rattle.listing.specs.Text.{Grew, hex2, hex4, hexes}
 
 take-take-append : (n : ℕ) (xs ys : List ℕ) → take n (take n xs ++ ys) ≡ take n (xs ++ ys)
 take-take-append zero xs ys = refl
@@ -38,15 +38,10 @@ grew_write text more after h is =
     }
 
 -- the two bytes of an address as its four digits
-pub four_digits : (high low address : ℕ) → low < 256 → address ≡ high * 256 + low → hexes (high ∷ low ∷ []) ≡ hex4 address
-four_digits high low address h is =
-    let front : address / 256 ≡ high = omega arith in
-    let back : address % 256 ≡ low = omega arith in
-    rw (front, back) refl
-
--- the same of the bytes that the library gives
 pub address_digits : (address : ℕ) → address < 2 ^ 16 → hexes (to_be_bytes w16 address) ≡ hex4 address
-address_digits address h = four_digits (address / 256 % 256) (address % 256) address (omega arith) (omega arith)
+address_digits address h =
+    let front : address / 256 % 256 ≡ address / 256 = omega arith in
+    ap (λ (high : ℕ). hex2 high ++ hex2 (address % 256)) front
 
 -- the pieces of the first i bytes, and then the piece of the byte at i
 pub also_more : (piece : ℕ → List ℕ) (bytes : List ℕ) (i : ℕ) {text after last : List ℕ} → i < length bytes

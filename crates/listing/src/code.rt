@@ -1,5 +1,5 @@
 // Code bytes, taken group by group.
-ghost use Rattle.std.specs.Prelude.{length};
+ghost use Rattle.std.specs.Prelude.{◌≡◌, length};
 ghost use Rattle.std.specs.Iterator.{at_most};
 ghost use Rattle.listing.specs.Code.{TakesFirst};
 
@@ -17,6 +17,16 @@ pub struct Placed<'a> {
 pub struct Code<'a> {
     pub address: u16,
     pub bytes: &'a [u8],
+}
+
+impl<'a> Code<'a> {
+    // These bytes, the first of which stands at this address.
+    pub fn at(address: u16, bytes: &'a [u8]) -> Code<'a>
+        ensures address { result.address ≡ address }
+        ensures bytes { result.bytes.now ≡ bytes.now }
+    {
+        Code { address, bytes }
+    }
 }
 
 impl<'a> Iterator for Code<'a> {

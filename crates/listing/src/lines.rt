@@ -1,19 +1,21 @@
 // One line into a caller's buffer.
-ghost use Rattle.std.specs.Prelude.{◌≡◌, ◌≤◌, length, IfOk};
-ghost use Rattle.listing.specs.Lines.{answered, lengths_at, line_answer, line_at, line_buffer, number_of, overwritten};
+ghost use Rattle.std.specs.Prelude.{◌≡◌, ◌≤◌, length, Some, IfOk};
+ghost use Rattle.listing.specs.Lines.{answered, lengths_at, line_answer, line_at, line_buffer, number_of, overwritten, refusal_text};
 
 use crate::code::Code;
 use crate::line::Line;
+use std::error::Error;
+use std::fmt;
 
 // How many bytes the line and the group have; both are 0 where there is no code.
-#[derive(Clone, Copy)]
+#[derive(Clone, Copy, Debug, PartialEq, Eq)]
 pub struct Listed {
-    pub line: usize,
-    pub group: usize,
+    pub line: u8,
+    pub group: u8,
 }
 
 // Why a line is not written.
-#[derive(Clone, Copy)]
+#[derive(Clone, Copy, Debug, PartialEq, Eq)]
 pub enum Refusal {
     // the buffer has fewer than 24 bytes
     ShortBuffer,
@@ -29,6 +31,18 @@ impl Refusal {
         }
     }
 }
+
+impl fmt::Display for Refusal {
+    ghost output = { λ refusal. Some (refusal_text refusal) };
+
+    fn fmt<W: fmt::Write>(&self, f: &mut fmt::Formatter<W>) -> fmt::Result {
+        match self {
+            Refusal::ShortBuffer => write!(f, "the buffer has fewer than 24 bytes"),
+        }
+    }
+}
+
+impl Error for Refusal {}
 
 // Writes the line of the first group into the buffer, whose other bytes stay.
 pub fn list_line(code: Code<'_>, buffer: &mut [u8]) -> Result<Listed, Refusal>
@@ -55,8 +69,8 @@ fn write_first(mut code: Code<'_>, buffer: &mut [u8]) -> Listed
     let line = Line::of(placed);
     put_line(buffer, &line);
     Listed {
-        line: line.text().len(),
-        group: placed.group.bytes().len(),
+        line: line.text().len() as u8,
+        group: placed.group.bytes().len() as u8,
     }
 }
 

@@ -1,13 +1,13 @@
 // How the line of a group is written: its address, its bytes, its name and its operand.
-ghost use Rattle.std.specs.Prelude.{◌≡◌, ◌<◌, [], ◌∷◌, take, slice_index};
+ghost use Rattle.std.specs.Prelude.{◌≡◌, ◌<◌, [], ◌∷◌, take, codes, slice_index};
 ghost use Rattle.listing.specs.Groups.{said};
-ghost use Rattle.listing.specs.Text.{Grew, hex_digit, hex2, hex4, hexes, operand_text, named_text, line_text};
+ghost use Rattle.listing.specs.Text.{Grew, hex_digit, hex2, hex4, hexes, operand_text, named_text, line_text, short_target};
 
 use crate::code::Placed;
 use crate::line::Line;
 use isa::operands::Operand;
 
-// The digit, in capitals, of a number below 16.
+// The digit, in capitals, of a number below 16. `write!` says what it wrote only where it answers Ok, and not that it does.
 fn hex_digit(n: u8) -> u8
     requires { n < 16 }
     ensures { result ≡ hex_digit n }
@@ -53,15 +53,13 @@ impl Line {
                 self.put(b" ");
                 self.put_hex(&[byte_at(bytes, 1)]);
             }
-            // on the page of the branch's own address
             Operand::ShortTarget => {
-                let [page, _] = address.to_be_bytes();
                 self.put(b" ");
-                self.put_hex(&[page, byte_at(bytes, 1)]);
+                self.put_address(short_target(address, byte_at(bytes, 1)));
             }
             Operand::LongTarget => {
                 self.put(b" ");
-                self.put_hex(&[byte_at(bytes, 1), byte_at(bytes, 2)]);
+                self.put_address(u16::from_be_bytes([byte_at(bytes, 1), byte_at(bytes, 2)]));
             }
         }
     }
@@ -83,6 +81,13 @@ impl Line {
         }
     }
 
+    // The end of a line.
+    fn put_end(&mut self)
+        ensures { Grew self.old (codes "\n") self.new }
+    {
+        self.put(b"\n");
+    }
+
     // The line of a group at an address.
     pub fn of(placed: Placed<'_>) -> Line
         ensures { result ≡ take 24 (line_text placed.entry.address (said placed.entry.group)) }
@@ -101,8 +106,16 @@ impl Line {
         self.put_hex(placed.group.bytes());
         self.put(b" ");
         self.put_name(placed);
-        self.put(b"\n");
+        self.put_end();
     }
+}
+
+// The target of a short branch: on the page of the branch's own address.
+fn short_target(address: u16, low: u8) -> u16
+    ensures { result ≡ short_target address low }
+{
+    let [page, _] = address.to_be_bytes();
+    u16::from_be_bytes([page, low])
 }
 
 // The byte at a place, or 0 past the end.

@@ -6,6 +6,11 @@ use Rattle.listing.proofs.Fits.{line_at_fits, whole_line, whole_size}
 use Rattle.listing.proofs.Parts.{sized}
 use Rattle.listing.proofs.lines.write_first.Goals as goal
 
+pub overflow_cast-result-2 : goal.overflow_cast-result-2
+overflow_cast-result-2 c =
+    let first = c.in-Some.ensures.steps in
+    omega (arith, (sized _ _ _ first.some first.group c.bytes.ensures).most)
+
 pub returns : goal.returns
 returns c =
     let first = c.in-Some.ensures.steps in

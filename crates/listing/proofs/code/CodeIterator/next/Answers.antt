@@ -13,7 +13,8 @@ overflow_cast-self c =
 pub slice_bounds-self-count : goal.slice_bounds-self-count
 slice_bounds-self-count c =
     let first = rw c.in_ok-group.was at c.first_group.ensures in
-    (sized _ _ _ first.0 first.1 c.bytes-size.ensures).within
+    let size = sized _ _ _ first.0 first.1 c.bytes-size.ensures in
+    omega (arith, size.least, size.within)
 
 pub slice_bounds-self-start : goal.slice_bounds-self-start
 slice_bounds-self-start c =

@@ -7,4 +7,4 @@ use Rattle.listing.proofs.line.Line.put_group.Goals as goal
 pub returns : goal.returns
 returns c =
     let bytes = spelt (hexes (said c.args.placed.group).bytes) (ap hexes c.bytes.ensures) c.put_hex.ensures in
-    also (also (also (also (also c.put_address.ensures c.put.ensures) bytes) c.put-2.ensures) c.put_name.ensures) c.put-3.ensures
+    also (also (also (also (also c.put_address.ensures c.put.ensures) bytes) c.put-2.ensures) c.put_name.ensures) c.put_end.ensures
