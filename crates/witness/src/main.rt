@@ -45,7 +45,10 @@ fn print(rt: &HostRuntime, tally: &Tally) -> anyhow::Result<()> {
     println!(rt; "listed under the outside name: {}", tally.named)?;
     println!(rt; "listed as BYTE, and illegal outside: {}", tally.illegal)?;
     println!(rt; "listed under another name: {}", tally.differing)?;
-    ensure!(tally.differing == 0 && tally.tried == 256, "the listing and the outside names differ, or an opcode is missing");
+    ensure!(
+        tally.differing == 0 && tally.tried == 256,
+        "the listing and the outside names differ, or an opcode is missing"
+    );
     Ok(())
 }
 
