@@ -1,91 +1,9 @@
 -- No line has more than 22 bytes, so that a line's 24 hold it whole.
 -- Assumes nothing.
-use Rattle.std.proofs.Common.{◌≡◌, ℕ, ◌+◌, ◌*◌, ◌<◌, ◌≤◌, true, false, cond, leb, List, [], ◌∷◌, length, get_or, take, Some, None, Option, refl, ap, ◌∙◌, arith, lit≤, rules}
+use Rattle.std.proofs.Common.{◌≡◌, ℕ, ◌+◌, ◌*◌, ◌<◌, ◌≤◌, List, [], ◌∷◌, length, get_or, take, Some, None, Option, refl, ap, ◌∙◌, arith, lit≤, rules}
 use Rattle.std.proofs.lemmas.List.{length-append, length-take, take_all}
 use Rattle.isa.specs.declared.operands.Operand.{Operand}
-use Rattle.isa.specs.declared.operands.Operand.TheVariants.{Nothing, Register, Port, Immediate, ShortTarget, LongTarget}
 use Rattle.isa.specs.declared.instructions.Instruction.{Instruction}
-use Rattle.isa.specs.declared.instructions.Instruction.TheVariants.{
-  Idl,
-  Ldn,
-  Inc,
-  Dec,
-  Br,
-  Bq,
-  Bz,
-  Bdf,
-  B1,
-  B2,
-  B3,
-  B4,
-  Skp,
-  Bnq,
-  Bnz,
-  Bnf,
-  Bn1,
-  Bn2,
-  Bn3,
-  Bn4,
-  Lda,
-  Str,
-  Irx,
-  Out,
-  Inp,
-  Ret,
-  Dis,
-  Ldxa,
-  Stxd,
-  Adc,
-  Sdb,
-  Shrc,
-  Smb,
-  Sav,
-  Mark,
-  Req,
-  Seq,
-  Adci,
-  Sdbi,
-  Shlc,
-  Smbi,
-  Glo,
-  Ghi,
-  Plo,
-  Phi,
-  Lbr,
-  Lbq,
-  Lbz,
-  Lbdf,
-  Nop,
-  Lsnq,
-  Lsnz,
-  Lsnf,
-  Lskp,
-  Lbnq,
-  Lbnz,
-  Lbnf,
-  Lsie,
-  Lsq,
-  Lsz,
-  Lsdf,
-  Sep,
-  Sex,
-  Ldx,
-  Or,
-  And,
-  Xor,
-  Add,
-  Sd,
-  Shr,
-  Sm,
-  Ldi,
-  Ori,
-  Ani,
-  Xri,
-  Adi,
-  Sdi,
-  Shl,
-  Smi,
-}
 use Rattle.isa.specs.AppendixA.{appendix_a}
 use Rattle.isa.specs.Instructions.{decoded}
 use Rattle.isa.specs.Table.{length_of}
@@ -98,12 +16,7 @@ name_fits : (i : Instruction) → length (appendix_a i).name ≤ 4
 name_fits i = grind arith
 
 operand_fits : (operand : Operand) (address : ℕ) (bytes : List ℕ) → length (operand_text operand address bytes) ≤ 5
-operand_fits Nothing address bytes = lit≤ tt
-operand_fits (Register r) address bytes = lit≤ tt
-operand_fits (Port p) address bytes = lit≤ tt
-operand_fits Immediate address bytes = lit≤ tt
-operand_fits ShortTarget address bytes = lit≤ tt
-operand_fits LongTarget address bytes = lit≤ tt
+operand_fits operand address bytes = grind arith
 
 length-hexes : (bytes : List ℕ) → length (hexes bytes) ≡ 2 * length bytes
 length-hexes [] = refl
@@ -131,11 +44,10 @@ whole_fits address n i code h =
 group_fits : (address : ℕ) (r : Option Instruction) (code : List ℕ) → length (line_text address (group_by r code)) ≤ 22
 group_fits address None code = alone_fits address code
 group_fits address (Some i) code =
-    elim (leb (length_of (get_or code 0 0)) (length code)) as (λ b.
-    length (line_text address (cond b (whole i (take (length_of (get_or code 0 0)) code)) (alone (take 1 code)))) ≤ 22) [
-      | true ↦ whole_fits address (length_of (get_or code 0 0)) i code (instruction_length (get_or code 0 0)).1
-      | false ↦ alone_fits address code
-    ]
+    let length = instruction_length (get_or code 0 0) in
+    let short = alone_fits address code in
+    let long = whole_fits address (length_of (get_or code 0 0)) i code length.1 in
+    grind arith
 
 pub line_fits : (address : ℕ) (code : List ℕ) → length (line_text address (group_at code)) ≤ 22
 line_fits address code = group_fits address (decoded (get_or code 0 0)) code

@@ -1,7 +1,7 @@
 -- The groups of a whole program, found one after another.
 -- Assumes nothing.
-use Rattle.std.proofs.Common.{◌≡◌, ℕ, zero, suc, ◌+◌, ◌-◌, ◌%◌, ◌<◌, ◌≤◌, List, [], ◌∷◌, ◌++◌, length, take, drop, Some, None, vec_items, vec_capacity, Option, sym, refl, ap, ◌∙◌, subst, append_assoc, append-nil, arith, rules}
-use Rattle.std.proofs.lemmas.List.{length-append, length-drop, length-take, nil_from_length, take_all, take_rest}
+use Rattle.std.proofs.Common.{◌≡◌, ℕ, zero, suc, ◌+◌, ◌-◌, ◌<◌, ◌≤◌, List, [], ◌∷◌, ◌++◌, length, take, drop, Some, None, vec_items, vec_capacity, Option, sym, refl, ap, ◌∙◌, subst, append_assoc, append-nil, arith, rules}
+use Rattle.std.proofs.lemmas.List.{length-append, length-drop, length-take, nil_from_length, take_all}
 use Rattle.std.specs.List.{flat_map}
 use Rattle.isa.specs.declared.instructions.Instruction.{Instruction}
 use Rattle.listing.specs.declared.program.Listing.{Listing}
