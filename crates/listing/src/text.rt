@@ -7,7 +7,8 @@ use crate::code::Placed;
 use crate::line::Line;
 use isa::operands::Operand;
 
-// The digit, in capitals, of a number below 16. `write!` says what it wrote only where it answers Ok, and not that it does.
+// The digit, in capitals, of a number below 16. By hand: `write!` states what it wrote only where it answers Ok, and no
+// clause says that it does.
 fn hex_digit(n: u8) -> u8
     requires { n < 16 }
     ensures { result ≡ hex_digit n }
@@ -27,7 +28,7 @@ impl Line {
     fn put_hex(&mut self, bytes: &[u8])
         ensures { Grew self.old (hexes bytes.now) self.new }
     {
-        // what is there already is no more than a line holds
+        // a line has at most 24 bytes: the loop begins with that
         let _written = self.text();
         for byte in bytes {
             self.put(&hex2(*byte));
