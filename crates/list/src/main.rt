@@ -2,6 +2,7 @@
 #![tactic(auto)]
 
 use crate::input::program_of;
+use listing::code::Code;
 use listing::program::{Listing, list_program};
 use std::io::{Read, Write};
 use std::process::ExitCode;
@@ -22,17 +23,18 @@ fn run(rt: &HostRuntime) -> anyhow::Result<()> {
     let mut bytes = Vec::new(rt.alloc());
     rt.stdin().take(65537).read_to_end(&mut bytes)?;
     let program = program_of(bytes.as_slice())?;
-    let listing = list_program(Vec::new(rt.alloc()), 0, program)?;
+    let listing = list_program(Vec::new(rt.alloc()), Code::at(0, program))?;
     print(rt, program.len(), &listing)
 }
 
 fn print(rt: &HostRuntime, bytes: usize, listing: &Listing) -> anyhow::Result<()> {
     println!(rt; "taken: {bytes} bytes from standard input, listed from address 0000")?;
     rt.stdout().write_all(listing.text.as_slice())?;
-    let instructions = listing.instructions;
-    let byte_groups = listing.byte_groups;
-    let groups = instructions.saturating_add(byte_groups);
-    println!(rt; "listed: {groups} groups: {instructions} instructions and {byte_groups} BYTE")?;
+    let groups = listing.instructions.saturating_add(listing.byte_groups);
+    println!(rt;
+        "listed: {groups} groups: {} instructions and {} BYTE",
+        listing.instructions, listing.byte_groups
+    )?;
     println!(rt; "joined: the groups, in order, are the {bytes} bytes taken")?;
     Ok(())
 }

@@ -1,91 +1,9 @@
 -- No line has more than 22 bytes, so that a line's 24 hold it whole.
 -- Assumes nothing.
-use Rattle.std.proofs.Common.{◌≡◌, ℕ, ◌+◌, ◌*◌, ◌<◌, ◌≤◌, true, false, cond, leb, List, [], ◌∷◌, length, get_or, take, Some, None, Option, refl, ap, ◌∙◌, arith, lit≤, rules}
+use Rattle.std.proofs.Common.{◌≡◌, ℕ, ◌+◌, ◌*◌, ◌<◌, ◌≤◌, List, [], ◌∷◌, length, get_or, take, Some, None, Option, refl, ap, ◌∙◌, arith, lit≤, rules}
 use Rattle.std.proofs.lemmas.List.{length-append, length-take, take_all}
 use Rattle.isa.specs.declared.operands.Operand.{Operand}
-use Rattle.isa.specs.declared.operands.Operand.TheVariants.{Register, Port, Immediate, ShortTarget, LongTarget}
 use Rattle.isa.specs.declared.instructions.Instruction.{Instruction}
-use Rattle.isa.specs.declared.instructions.Instruction.TheVariants.{
-  Idl,
-  Ldn,
-  Inc,
-  Dec,
-  Br,
-  Bq,
-  Bz,
-  Bdf,
-  B1,
-  B2,
-  B3,
-  B4,
-  Skp,
-  Bnq,
-  Bnz,
-  Bnf,
-  Bn1,
-  Bn2,
-  Bn3,
-  Bn4,
-  Lda,
-  Str,
-  Irx,
-  Out,
-  Inp,
-  Ret,
-  Dis,
-  Ldxa,
-  Stxd,
-  Adc,
-  Sdb,
-  Shrc,
-  Smb,
-  Sav,
-  Mark,
-  Req,
-  Seq,
-  Adci,
-  Sdbi,
-  Shlc,
-  Smbi,
-  Glo,
-  Ghi,
-  Plo,
-  Phi,
-  Lbr,
-  Lbq,
-  Lbz,
-  Lbdf,
-  Nop,
-  Lsnq,
-  Lsnz,
-  Lsnf,
-  Lskp,
-  Lbnq,
-  Lbnz,
-  Lbnf,
-  Lsie,
-  Lsq,
-  Lsz,
-  Lsdf,
-  Sep,
-  Sex,
-  Ldx,
-  Or,
-  And,
-  Xor,
-  Add,
-  Sd,
-  Shr,
-  Sm,
-  Ldi,
-  Ori,
-  Ani,
-  Xri,
-  Adi,
-  Sdi,
-  Shl,
-  Smi,
-}
 use Rattle.isa.specs.AppendixA.{appendix_a}
 use Rattle.isa.specs.Instructions.{decoded}
 use Rattle.isa.specs.Table.{length_of}
@@ -95,93 +13,10 @@ use Rattle.listing.specs.Lines.{group_size, line_at}
 use Rattle.listing.specs.Text.{hexes, line_text, named_text, operand_text}
 
 name_fits : (i : Instruction) → length (appendix_a i).name ≤ 4
-name_fits Idl = lit≤ tt
-name_fits (Ldn r) = lit≤ tt
-name_fits (Inc r) = lit≤ tt
-name_fits (Dec r) = lit≤ tt
-name_fits Br = lit≤ tt
-name_fits Bq = lit≤ tt
-name_fits Bz = lit≤ tt
-name_fits Bdf = lit≤ tt
-name_fits B1 = lit≤ tt
-name_fits B2 = lit≤ tt
-name_fits B3 = lit≤ tt
-name_fits B4 = lit≤ tt
-name_fits Skp = lit≤ tt
-name_fits Bnq = lit≤ tt
-name_fits Bnz = lit≤ tt
-name_fits Bnf = lit≤ tt
-name_fits Bn1 = lit≤ tt
-name_fits Bn2 = lit≤ tt
-name_fits Bn3 = lit≤ tt
-name_fits Bn4 = lit≤ tt
-name_fits (Lda r) = lit≤ tt
-name_fits (Str r) = lit≤ tt
-name_fits Irx = lit≤ tt
-name_fits (Out p) = lit≤ tt
-name_fits (Inp p) = lit≤ tt
-name_fits Ret = lit≤ tt
-name_fits Dis = lit≤ tt
-name_fits Ldxa = lit≤ tt
-name_fits Stxd = lit≤ tt
-name_fits Adc = lit≤ tt
-name_fits Sdb = lit≤ tt
-name_fits Shrc = lit≤ tt
-name_fits Smb = lit≤ tt
-name_fits Sav = lit≤ tt
-name_fits Mark = lit≤ tt
-name_fits Req = lit≤ tt
-name_fits Seq = lit≤ tt
-name_fits Adci = lit≤ tt
-name_fits Sdbi = lit≤ tt
-name_fits Shlc = lit≤ tt
-name_fits Smbi = lit≤ tt
-name_fits (Glo r) = lit≤ tt
-name_fits (Ghi r) = lit≤ tt
-name_fits (Plo r) = lit≤ tt
-name_fits (Phi r) = lit≤ tt
-name_fits Lbr = lit≤ tt
-name_fits Lbq = lit≤ tt
-name_fits Lbz = lit≤ tt
-name_fits Lbdf = lit≤ tt
-name_fits Nop = lit≤ tt
-name_fits Lsnq = lit≤ tt
-name_fits Lsnz = lit≤ tt
-name_fits Lsnf = lit≤ tt
-name_fits Lskp = lit≤ tt
-name_fits Lbnq = lit≤ tt
-name_fits Lbnz = lit≤ tt
-name_fits Lbnf = lit≤ tt
-name_fits Lsie = lit≤ tt
-name_fits Lsq = lit≤ tt
-name_fits Lsz = lit≤ tt
-name_fits Lsdf = lit≤ tt
-name_fits (Sep r) = lit≤ tt
-name_fits (Sex r) = lit≤ tt
-name_fits Ldx = lit≤ tt
-name_fits Or = lit≤ tt
-name_fits And = lit≤ tt
-name_fits Xor = lit≤ tt
-name_fits Add = lit≤ tt
-name_fits Sd = lit≤ tt
-name_fits Shr = lit≤ tt
-name_fits Sm = lit≤ tt
-name_fits Ldi = lit≤ tt
-name_fits Ori = lit≤ tt
-name_fits Ani = lit≤ tt
-name_fits Xri = lit≤ tt
-name_fits Adi = lit≤ tt
-name_fits Sdi = lit≤ tt
-name_fits Shl = lit≤ tt
-name_fits Smi = lit≤ tt
+name_fits i = grind arith
 
 operand_fits : (operand : Option Operand) (address : ℕ) (bytes : List ℕ) → length (operand_text operand address bytes) ≤ 5
-operand_fits None address bytes = lit≤ tt
-operand_fits (Some (Register r)) address bytes = lit≤ tt
-operand_fits (Some (Port p)) address bytes = lit≤ tt
-operand_fits (Some Immediate) address bytes = lit≤ tt
-operand_fits (Some ShortTarget) address bytes = lit≤ tt
-operand_fits (Some LongTarget) address bytes = lit≤ tt
+operand_fits operand address bytes = grind arith
 
 length-hexes : (bytes : List ℕ) → length (hexes bytes) ≡ 2 * length bytes
 length-hexes [] = refl
@@ -209,11 +44,10 @@ whole_fits address n i code h =
 group_fits : (address : ℕ) (r : Option Instruction) (code : List ℕ) → length (line_text address (group_by r code)) ≤ 22
 group_fits address None code = alone_fits address code
 group_fits address (Some i) code =
-    elim (leb (length_of (get_or code 0 0)) (length code)) as (λ b.
-    length (line_text address (cond b (whole i (take (length_of (get_or code 0 0)) code)) (alone (take 1 code)))) ≤ 22) [
-      | true ↦ whole_fits address (length_of (get_or code 0 0)) i code (instruction_length (get_or code 0 0)).1
-      | false ↦ alone_fits address code
-    ]
+    let length = instruction_length (get_or code 0 0) in
+    let short = alone_fits address code in
+    let long = whole_fits address (length_of (get_or code 0 0)) i code length.1 in
+    grind arith
 
 pub line_fits : (address : ℕ) (code : List ℕ) → length (line_text address (group_at code)) ≤ 22
 line_fits address code = group_fits address (decoded (get_or code 0 0)) code

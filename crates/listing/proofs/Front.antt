@@ -1,21 +1,14 @@
 -- The first group is a front of the code, of one to three bytes.
 -- Assumes nothing.
-use Rattle.std.proofs.Common.{◌≡◌, ℕ, zero, suc, ◌<◌, ◌≤◌, true, false, cond, leb, List, [], ◌∷◌, ◌++◌, length, get_or, take, drop, Some, None, Option, sym, refl, ap, subst, arith, lit≤}
-use Rattle.std.proofs.lemmas.List.{length-take}
+use Rattle.std.proofs.Common.{◌≡◌, ℕ, ◌<◌, ◌≤◌, true, false, cond, leb, List, ◌++◌, length, get_or, take, drop, Some, None, Option, sym, refl, ap, subst, arith, lit≤}
+use Rattle.std.proofs.lemmas.List.{length-take, take_min, take-append-drop}
 use Rattle.isa.specs.declared.instructions.Instruction.{Instruction}
 use Rattle.isa.specs.Instructions.{decoded}
-use Rattle.isa.specs.Table.{length_of, one_more, two_more}
+use Rattle.isa.specs.Table.{length_of}
 use Rattle.listing.specs.Groups.{alone, group_at, group_by, whole}
 
 pub instruction_length : (op : ℕ) → (1 ≤ length_of op) × (length_of op ≤ 3)
-instruction_length op =
-    elim (one_more op) as (λ b. (1 ≤ cond b 2 (cond (two_more op) 3 1)) × (cond b 2 (cond (two_more op) 3 1) ≤ 3)) [
-      | true ↦ (lit≤ tt, lit≤ tt)
-      | false ↦ elim (two_more op) as (λ b. (1 ≤ cond b 3 1) × (cond b 3 1 ≤ 3)) [
-        | true ↦ (lit≤ tt, lit≤ tt)
-        | false ↦ (lit≤ tt, lit≤ tt)
-      ]
-    ]
+instruction_length op = grind arith
 
 -- bytes that are the first n of the code, n from 1 to 3
 pub record Front (code bytes : List ℕ) : Type 0 where
@@ -55,9 +48,7 @@ pub group_within : (code : List ℕ) → length (group_at code).bytes ≤ length
 group_within code = let f = group_front code in omega (arith, ap length f.front, length-take f.n code)
 
 take_and_rest : (n : ℕ) (xs : List ℕ) → take n xs ++ drop (length (take n xs)) xs ≡ xs
-take_and_rest zero xs = refl
-take_and_rest (suc n) [] = refl
-take_and_rest (suc n) (x ∷ xs) = ap (λ (ys : List ℕ). x ∷ ys) (take_and_rest n xs)
+take_and_rest n xs = grind (arith, take_min, length-take, take-append-drop)
 
 -- the group and what is left are the code
 pub group_rest : (code : List ℕ) → (group_at code).bytes ++ drop (length (group_at code).bytes) code ≡ code

@@ -1,9 +1,11 @@
 -- Texts that grow on a line, one piece after another.
 -- Assumes nothing.
-use Rattle.std.proofs.Common.{◌≡◌, ℕ, zero, suc, ◌+◌, ◌<◌, ◌≤◌, List, [], ◌∷◌, ◌++◌, length, get_or, take, set, sym, refl, ap, ◌∙◌, subst, append_assoc, append-nil, arith}
-use Rattle.std.proofs.lemmas.List.{flat_map_more, length_push, length-take, length-take-le, take_all, take-append-le, take_more, take_more_set}
+use Rattle.std.proofs.Common.{◌≡◌, ℕ, zero, suc, ◌+◌, ◌-◌, ◌/◌, ◌%◌, ◌^◌, ◌<◌, ◌≤◌, min, List, [], ◌∷◌, ◌++◌, length, get_or, take, sym, refl, ap, ◌∙◌, subst, append_assoc, append-nil, arith}
+use Rattle.std.proofs.lemmas.List.{flat_map_more, take_all, take_min, take_more}
+use Rattle.std.proofs.Math.Seq.{take-append-add}
+use Rattle.std.specs.Int.{w16, to_be_bytes}
 use Rattle.std.specs.List.{flat_map}
-use Rattle.listing.specs.Text.{Grew}
+use Rattle.listing.specs.Text.{Grew, hex2, hex4, hexes}
 
 take-take-append : (n : ℕ) (xs ys : List ℕ) → take n (take n xs ++ ys) ≡ take n (xs ++ ys)
 take-take-append zero xs ys = refl
@@ -22,25 +24,24 @@ pub spelt : {text a after : List ℕ} (b : List ℕ) → a ≡ b → Grew text a
 spelt {text} {a} {after} b e g = subst (λ (piece : List ℕ). Grew text piece after) e g
 
 -- no piece changes nothing
-pub grew_none : (bytes : List ℕ) (n : ℕ) → n ≤ 24 → Grew (take n bytes) [] (take n bytes)
-grew_none bytes n h = record {
-  is = sym (ap (take 24) (append-nil (take n bytes)) ∙ take_all 24 (take n bytes) (simp length-take (omega arith)));
-}
+pub grew_none : (text : List ℕ) → length text ≤ 24 → Grew text [] text
+grew_none text h = record { is = sym (ap (take 24) (append-nil text) ∙ take_all 24 text h) }
 
--- one byte on a line that has room for it
-pub grew_room : (bytes : List ℕ) (n byte : ℕ) → n < 24 → length bytes ≡ 24
-    → Grew (take n bytes) (byte ∷ []) (take (n + 1) (set bytes n byte))
-grew_room bytes n byte room size = record {
-  is = take_more_set bytes n byte (omega arith)
-      ∙ sym (take_all 24 (take n bytes ++ byte ∷ []) (omega (arith, length_push (take n bytes) byte, length-take-le n bytes (omega arith))));
-}
+-- as much of a piece as there is room for
+pub grew_write : (text more after : List ℕ) → length text ≤ 24
+    → after ≡ text ++ take (min (24 - length text) (length more)) more → Grew text more after
+grew_write text more after h is =
+    let room : length text + (24 - length text) ≡ 24 = omega arith in
+    record {
+      is = is ∙ ap (λ t. text ++ t) (take_min (24 - length text) more)
+          ∙ sym (take-append-add text more (24 - length text)) ∙ ap (λ k. take k (text ++ more)) room;
+    }
 
--- one byte on a full line
-pub grew_full : (bytes : List ℕ) (n byte : ℕ) → 24 ≤ n → n ≤ 24 → length bytes ≡ 24
-    → Grew (take n bytes) (byte ∷ []) (take n bytes)
-grew_full bytes n byte least most size =
-    let long : length (take n bytes) ≡ n = length-take-le n bytes (omega arith) in
-    record { is = sym (take-append-le 24 (take n bytes) (byte ∷ []) (omega arith) ∙ take_all 24 (take n bytes) (omega arith)) }
+-- the two bytes of an address as its four digits
+pub address_digits : (address : ℕ) → address < 2 ^ 16 → hexes (to_be_bytes w16 address) ≡ hex4 address
+address_digits address h =
+    let front : address / 256 % 256 ≡ address / 256 = omega arith in
+    ap (λ (high : ℕ). hex2 high ++ hex2 (address % 256)) front
 
 -- the pieces of the first i bytes, and then the piece of the byte at i
 pub also_more : (piece : ℕ → List ℕ) (bytes : List ℕ) (i : ℕ) {text after last : List ℕ} → i < length bytes
@@ -54,8 +55,3 @@ also_more piece bytes i h first second =
 pub all_pieces : (piece : ℕ → List ℕ) (bytes : List ℕ) (i : ℕ) {text after : List ℕ} → length bytes ≤ i
     → Grew text (flat_map piece (take i bytes)) after → Grew text (flat_map piece bytes) after
 all_pieces piece bytes i h g = spelt _ (ap (flat_map piece) (take_all i bytes h)) g
-
--- bytes as they are, each a piece of its own
-pub joined_single : (bytes : List ℕ) → flat_map (λ b. b ∷ []) bytes ≡ bytes
-joined_single [] = refl
-joined_single (b ∷ bs) = ap (λ (xs : List ℕ). b ∷ xs) (joined_single bs)

@@ -1,11 +1,14 @@
 -- The groups of a whole program, found one after another.
 -- Assumes nothing.
-use Rattle.std.proofs.Common.{◌≡◌, ℕ, zero, suc, ◌+◌, ◌-◌, ◌%◌, ◌<◌, ◌≤◌, List, [], ◌∷◌, ◌++◌, length, take, drop, Some, None, vec_items, vec_capacity, Option, sym, refl, ap, ◌∙◌, subst, append_assoc, append-nil, arith, rules}
-use Rattle.std.proofs.lemmas.List.{length-append, length-drop, length-take, nil_from_length, take_all, take_rest}
+use Rattle.std.proofs.Common.{◌≡◌, ℕ, zero, suc, ◌+◌, ◌-◌, ◌<◌, ◌≤◌, List, [], ◌∷◌, ◌++◌, length, take, drop, Some, None, vec_items, vec_capacity, Option, sym, refl, ap, ◌∙◌, subst, append_assoc, append-nil, arith, rules}
+use Rattle.std.proofs.lemmas.List.{length-append, length-drop, length-take, nil_from_length, take_all}
 use Rattle.std.specs.List.{flat_map}
 use Rattle.isa.specs.declared.instructions.Instruction.{Instruction}
 use Rattle.listing.specs.declared.program.Listing.{Listing}
-use Rattle.listing.specs.Groups.{Said, group_at}
+use Rattle.listing.specs.declared.code.Code.{Code}
+use Rattle.listing.specs.declared.code.Placed.{Placed}
+use Rattle.listing.specs.Code.{Took, next}
+use Rattle.listing.specs.Groups.{Said, group_at, said}
 use Rattle.listing.specs.Program.{
   Added,
   Full,
@@ -17,7 +20,6 @@ use Rattle.listing.specs.Program.{
   counts_instruction,
   instructions_in,
   lines_of,
-  next,
 }
 use Rattle.listing.specs.Text.{line_text}
 use Rattle.listing.proofs.Fits.{line_fits}
@@ -55,12 +57,6 @@ groups_more (op ∷ rest) some =
     (passed (length (group_at (op ∷ rest)).bytes - 1) rest
     ∙ ap (groups_from 0) (drop-cons (length (group_at (op ∷ rest)).bytes) op rest (group_some (op ∷ rest) some)))
 
--- a group takes at least one byte
-pub shorter_by_one : (code : List ℕ) → 0 < length code → length (drop (length (group_at code).bytes) code) + 1 ≤ length code
-shorter_by_one code some =
-    let size : 0 < length (group_at code).bytes = group_some code some in
-    omega (arith, length-drop (length (group_at code).bytes) code)
-
 -- these are the groups of the code
 parts_within : (most : ℕ) (code : List ℕ) → length code ≤ most → Parts code (groups_of code)
 parts_within most [] h = subst (Parts []) (sym groups_none) refl
@@ -84,34 +80,6 @@ parts_joined code (g ∷ gs) (some, same, rest) =
     ap (λ (bytes : List ℕ). g.bytes ++ bytes) (parts_joined (drop (length g.bytes) code) gs rest)
     ∙ subst (λ (h : Said). h.bytes ++ drop (length h.bytes) code ≡ code) (sym same) (group_rest code)
 
--- a listing on its way: with the lines and counts of the groups of the rest it is that of the code
-pub record Going (front : List ℕ) (room address at : ℕ) (code rest : List ℕ) (listing : Listing) : Type 0 where
-  pub text : vec_items listing.text ++ lines_of at (groups_of rest) ≡ front ++ lines_of address (groups_of code)
-  pub kept : room ≤ vec_capacity listing.text
-  pub instructions : listing.instructions + instructions_in (groups_of rest) ≡ instructions_in (groups_of code)
-  pub byte_groups : listing.byte_groups + byte_groups_in (groups_of rest) ≡ byte_groups_in (groups_of code)
-  pub few : listing.instructions + listing.byte_groups + length rest ≤ length code
-
--- a group is an instruction or BYTE
-one_of : (r : Option Instruction) → counts_instruction r + counts_byte r ≡ 1
-one_of (Some i) = refl
-one_of None = refl
-
--- one group more, which stands at the start of the rest
-one_more : (front : List ℕ) (room address at : ℕ) (code rest left : List ℕ) (before after : Listing) (g : Said)
-    → Going front room address at code rest before → Added at g before after → groups_of rest ≡ g ∷ groups_of left
-    → take 24 (line_text at g) ≡ line_text at g → length left + 1 ≤ length rest → Going front room address (next at g) code left after
-one_more front room address at code rest left before after g going added groups fits shorter = record {
-  text = ap (λ (t : List ℕ). t ++ lines_of (next at g) (groups_of left))
-      (added.text ∙ ap (λ (line : List ℕ). vec_items before.text ++ line) fits)
-      ∙ append_assoc (vec_items before.text) (line_text at g) (lines_of (next at g) (groups_of left))
-      ∙ ap (λ (gs : List Said). vec_items before.text ++ lines_of at gs) (sym groups) ∙ going.text;
-  instructions = omega (arith, added.instructions, ap instructions_in groups, going.instructions);
-  kept = omega (arith, added.room, going.kept);
-  byte_groups = omega (arith, added.byte_groups, ap byte_groups_in groups, going.byte_groups);
-  few = omega (arith, added.instructions, added.byte_groups, one_of g.instruction, going.few);
-}
-
 -- how long the first group is
 pub record Sized (rest bytes : List ℕ) : Type 0 where
   pub least : 1 ≤ length bytes
@@ -129,31 +97,82 @@ sized rest bytes g some same part =
       size = size;
     }
 
-pub going_more : (front : List ℕ) (room address at behind : ℕ) (code rest bytes : List ℕ) (before after : Listing) (g : Said)
-    → Going front room address at code rest before → 0 < length rest → g ≡ group_at rest → Sized rest bytes → Added at g before after
-    → behind ≡ (at + length bytes) % 65536
-    → Going front room address behind code (take (length rest - length bytes) (drop (length bytes) rest)) after
-going_more front room address at behind code rest bytes before after g going some same sizes added moved =
-    let cut : take (length rest - length bytes) (drop (length bytes) rest) ≡ drop (length (group_at rest).bytes) rest =
-    take_rest rest (length bytes) ∙ ap (λ (n : ℕ). drop n rest) sizes.size
-    in
-    let address-behind : behind ≡ next at (group_at rest) = moved ∙ ap (λ (n : ℕ). (at + n) % 65536) sizes.size in
-    subst (λ (left : List ℕ). Going front room address behind code left after) (sym cut)
-    (subst (λ (a : ℕ). Going front room address a code (drop (length (group_at rest).bytes) rest) after) (sym address-behind)
-    (one_more front room address at code rest (drop (length (group_at rest).bytes) rest) before after (group_at rest) going
-    (subst (λ (h : Said). Added at h before after) same added) (groups_more rest some)
-    (take_all 24 (line_text at (group_at rest)) (omega (arith, line_fits at rest))) (shorter_by_one rest some)))
+-- the groups of some code are the one that is taken and those of what is left
+took_groups : {code left : Code} {first : Placed} → Took code first left
+    → groups_of code.bytes.now ≡ said first.group ∷ groups_of left.bytes.now
+took_groups {code} {left} {first} took =
+    let all = groups_more code.bytes.now took.some in cc
 
-pub going_all : (front : List ℕ) (room address at : ℕ) (code rest : List ℕ) (listing : Listing)
-    → Going front room address at code rest listing → length rest ≡ 0 → Lists front address code listing
-going_all front room address at code rest listing going none =
-    let groups : groups_of rest ≡ [] = ap groups_of (nil_from_length rest none) ∙ groups_none in
+-- a line's bytes hold the line of the group that is taken
+took_line : {code left : Code} {first : Placed} → Took code first left
+    → take 24 (line_text first.address (said first.group)) ≡ line_text code.address (said first.group)
+took_line {code} {left} {first} took =
+    ap (λ (a : ℕ). take 24 (line_text a (said first.group))) took.address
+    ∙ take_all 24 (line_text code.address (said first.group))
+    (omega (arith, ap (λ (g : Said). length (line_text code.address g)) took.group, line_fits code.address code.bytes.now))
+
+-- a group takes at least one byte
+took_some : {code left : Code} {first : Placed} → Took code first left → length left.bytes.now + 1 ≤ length code.bytes.now
+took_some {code} {left} {first} took =
+    omega (
+      arith,
+      group_some code.bytes.now took.some,
+      ap (λ (g : Said). length g.bytes) took.group,
+      ap length took.rest,
+      length-drop (length (said first.group).bytes) code.bytes.now,
+    )
+
+-- a listing on its way: with the lines and counts of the groups of the rest it is that of the code
+pub record Going (front : List ℕ) (room : ℕ) (code rest : Code) (listing : Listing) : Type 0 where
+  pub text : vec_items listing.text ++ lines_of rest.address (groups_of rest.bytes.now)
+      ≡ front ++ lines_of code.address (groups_of code.bytes.now)
+  pub kept : room ≤ vec_capacity listing.text
+  pub instructions : listing.instructions + instructions_in (groups_of rest.bytes.now) ≡ instructions_in (groups_of code.bytes.now)
+  pub byte_groups : listing.byte_groups + byte_groups_in (groups_of rest.bytes.now) ≡ byte_groups_in (groups_of code.bytes.now)
+  pub few : listing.instructions + listing.byte_groups + length rest.bytes.now ≤ length code.bytes.now
+
+-- a group is an instruction or BYTE
+one_of : (r : Option Instruction) → counts_instruction r + counts_byte r ≡ 1
+one_of (Some i) = refl
+one_of None = refl
+
+-- one group more
+pub going_more : {front : List ℕ} {room : ℕ} {code rest left : Code} {before after : Listing} {first : Placed}
+    → Going front room code rest before → Took rest first left → Added first.address (said first.group) before after
+    → Going front room code left after
+going_more {front} {room} {code} {rest} {left} {before} {after} {first} going took added =
+    let line = line_text rest.address (said first.group) in
+    let more = groups_of left.bytes.now in
     record {
-      groups = groups_of code;
-      parts = parts code;
-      whole = parts_joined code (groups_of code) (parts code);
+      text = ap (λ (t : List ℕ). t ++ lines_of left.address more)
+          (added.text ∙ ap (λ (t : List ℕ). vec_items before.text ++ t) (took_line took))
+          ∙ append_assoc (vec_items before.text) line (lines_of left.address more)
+          ∙ ap (λ (a : ℕ). vec_items before.text ++ (line ++ lines_of a more)) took.behind
+          ∙ ap (λ (gs : List Said). vec_items before.text ++ lines_of rest.address gs) (sym (took_groups took)) ∙ going.text;
+      kept = omega (arith, added.room, going.kept);
+      instructions = omega (arith, added.instructions, ap instructions_in (took_groups took), going.instructions);
+      byte_groups = omega (arith, added.byte_groups, ap byte_groups_in (took_groups took), going.byte_groups);
+      few = omega (
+        arith,
+        added.instructions,
+        added.byte_groups,
+        one_of (said first.group).instruction,
+        took_some took,
+        going.few,
+      );
+    }
+
+-- where nothing is left, the listing is that of the code
+pub going_all : {front : List ℕ} {room : ℕ} {code rest : Code} {listing : Listing}
+    → Going front room code rest listing → length rest.bytes.now ≡ 0 → Lists front code.address code.bytes.now listing
+going_all {front} {room} {code} {rest} {listing} going none =
+    let groups : groups_of rest.bytes.now ≡ [] = ap groups_of (nil_from_length rest.bytes.now none) ∙ groups_none in
+    record {
+      groups = groups_of code.bytes.now;
+      parts = parts code.bytes.now;
+      whole = parts_joined code.bytes.now (groups_of code.bytes.now) (parts code.bytes.now);
       text = sym (append-nil (vec_items listing.text))
-          ∙ ap (λ (gs : List Said). vec_items listing.text ++ lines_of at gs) (sym groups) ∙ going.text;
+          ∙ ap (λ (gs : List Said). vec_items listing.text ++ lines_of rest.address gs) (sym groups) ∙ going.text;
       instructions = omega (arith, ap instructions_in groups, going.instructions);
       byte_groups = omega (arith, ap byte_groups_in groups, going.byte_groups);
     }
@@ -174,16 +193,17 @@ no_room items front line written more all room cap taken kept full long same who
     )
 
 -- where the next line finds no room, the text had none for all of them
-pub going_full : (front : List ℕ) (room taken address at : ℕ) (code rest : List ℕ) (listing : Listing) (g : Said)
-    → Going front room address at code rest listing → taken ≡ length front → 0 < length rest → g ≡ group_at rest
-    → Full at g listing → NoRoom room taken address code
-going_full front room taken address at code rest listing g going long some same full = record {
-  groups = groups_of code;
-  parts = parts code;
-  short = no_room (vec_items listing.text) front (line_text at (group_at rest)) (line_text at g)
-      (lines_of (next at (group_at rest)) (groups_of (drop (length (group_at rest).bytes) rest))) (lines_of address (groups_of code))
-      room (vec_capacity listing.text) taken going.kept
-      (subst (λ (n : ℕ). vec_capacity listing.text < n + length (take 24 (line_text at g))) listing.text.ok.0 full)
-      long (ap (λ (h : Said). line_text at h) same)
-      (sym (ap (λ (gs : List Said). vec_items listing.text ++ lines_of at gs) (groups_more rest some)) ∙ going.text);
+pub going_full : {front : List ℕ} {room : ℕ} {code rest left : Code} {listing : Listing} {first : Placed} (taken : ℕ)
+    → Going front room code rest listing → taken ≡ length front → Took rest first left
+    → Full first.address (said first.group) listing → NoRoom room taken code.address code.bytes.now
+going_full {front} {room} {code} {rest} {left} {listing} {first} taken going long took full = record {
+  groups = groups_of code.bytes.now;
+  parts = parts code.bytes.now;
+  short = no_room (vec_items listing.text) front (line_text rest.address (said first.group))
+      (line_text first.address (said first.group)) (lines_of (next rest.address (said first.group)) (groups_of left.bytes.now))
+      (lines_of code.address (groups_of code.bytes.now)) room (vec_capacity listing.text) taken going.kept
+      (subst (λ (n : ℕ). vec_capacity listing.text < n + length (take 24 (line_text first.address (said first.group))))
+      listing.text.ok.0 full)
+      long (ap (λ (a : ℕ). line_text a (said first.group)) took.address)
+      (sym (ap (λ (gs : List Said). vec_items listing.text ++ lines_of rest.address gs) (took_groups took)) ∙ going.text);
 }

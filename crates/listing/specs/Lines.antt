@@ -1,6 +1,6 @@
 -- What the listing of one line answers, and what it leaves in the buffer.
 -- Assumes nothing.
-use Rattle.std.specs.Prelude.{ℕ, cond, List, [], ◌∷◌, ◌++◌, length, drop, Ok, Err, Result, nat_lt}
+use Rattle.std.specs.Prelude.{ℕ, cond, List, [], ◌∷◌, ◌++◌, length, drop, codes, Ok, Err, Result, nat_lt}
 use Rattle.listing.specs.declared.lines.Listed.{Listed}
 use Rattle.listing.specs.declared.lines.Refusal.{Refusal}
 use Rattle.listing.specs.declared.lines.Refusal.TheVariants.{ShortBuffer}
@@ -15,6 +15,10 @@ pub record Answer : Type 0 where
 
 abbrev pub answer : ℕ → ℕ → ℕ → Answer
 answer number line group = record { number = number; line = line; group = group }
+
+-- the refusals as they are told to a person
+abbrev pub refusal_text : Refusal → List ℕ
+refusal_text ShortBuffer = codes "the buffer has fewer than 24 bytes"
 
 -- the refusals by their numbers
 abbrev pub number_of : Refusal → ℕ

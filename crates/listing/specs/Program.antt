@@ -1,9 +1,10 @@
 -- What the listing of a whole program is.
 -- Assumes nothing.
-use Rattle.std.specs.Prelude.{◌≡◌, ℕ, ◌+◌, ◌%◌, ◌<◌, ◌≤◌, List, [], ◌∷◌, ◌++◌, length, take, drop, Some, None, vec_items, vec_len, vec_capacity, Option}
+use Rattle.std.specs.Prelude.{◌≡◌, ℕ, ◌+◌, ◌<◌, ◌≤◌, List, [], ◌∷◌, ◌++◌, length, take, drop, Some, None, vec_items, vec_len, vec_capacity, Option}
 use Rattle.std.specs.List.{flat_map}
 use Rattle.isa.specs.declared.instructions.Instruction.{Instruction}
 use Rattle.listing.specs.declared.program.Listing.{Listing}
+use Rattle.listing.specs.Code.{next}
 use Rattle.listing.specs.Groups.{Said, group_at}
 use Rattle.listing.specs.Text.{line_text}
 
@@ -11,10 +12,6 @@ use Rattle.listing.specs.Text.{line_text}
 abbrev pub Parts : List ℕ → List Said → Type 0
 Parts code [] = code ≡ []
 Parts code (g ∷ gs) = (0 < length code) × (g ≡ group_at code) × Parts (drop (length g.bytes) code) gs
-
--- the address behind a group; addresses wrap past FFFF
-abbrev pub next : ℕ → Said → ℕ
-next address g = (address + length g.bytes) % 65536
 
 -- the lines of groups, the first of which stands at an address
 abbrev pub lines_of : ℕ → List Said → List ℕ

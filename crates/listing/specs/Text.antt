@@ -7,12 +7,7 @@ use Rattle.isa.specs.declared.operands.Operand.{Operand}
 use Rattle.isa.specs.declared.operands.Operand.TheVariants.{Register, Port, Immediate, ShortTarget, LongTarget}
 use Rattle.isa.specs.AppendixA.{appendix_a}
 use Rattle.isa.specs.Operands.{digit_of, number_of}
-use Rattle.listing.specs.declared.line.Line.{Line}
 use Rattle.listing.specs.Groups.{Said}
-
--- what is written on a line
-abbrev pub text_of : Line → List ℕ
-text_of l = take l.length l.bytes
 
 -- a text after more was written behind it, as much as a line holds
 pub record Grew (text more after : List ℕ) : Type 0 where

@@ -1,19 +1,39 @@
 // The functions for the terminal's C firmware. The crate `listing_c` exports them under their C names.
 ghost use Rattle.std.specs.Prelude.{◌≡◌};
 ghost use Rattle.isa.specs.Table.{entry_of};
-ghost use Rattle.listing.specs.Lines.{line_answer, line_buffer};
+ghost use Rattle.listing.specs.Lines.{answered, line_answer, line_buffer};
 ghost use Rattle.listing.specs.ForC.{told};
 
-use crate::lines::list_line;
+use crate::code::Code;
+use crate::lines::{Listed, Refusal, list_line};
 use isa::table::Entry;
 
 // What C is told of a line: the refusal's number, or 0, and the lengths of line and group.
 #[repr(C)]
-#[derive(Clone, Copy)]
+#[derive(Clone, Copy, Debug, PartialEq, Eq)]
 pub struct LineAnswer {
     pub number: u8,
     pub line: u8,
     pub group: u8,
+}
+
+impl From<Result<Listed, Refusal>> for LineAnswer {
+    ghost from_gives = { λ answer to_c. told to_c ≡ answered answer };
+
+    fn from(answer: Result<Listed, Refusal>) -> LineAnswer {
+        match answer {
+            Ok(listed) => LineAnswer {
+                number: 0,
+                line: listed.line,
+                group: listed.group,
+            },
+            Err(refusal) => LineAnswer {
+                number: refusal.number(),
+                line: 0,
+                group: 0,
+            },
+        }
+    }
 }
 
 // The table's entry for an opcode.
@@ -28,16 +48,5 @@ pub fn station_list_line(address: u16, code: &[u8], buffer: &mut [u8]) -> LineAn
     ensures answer { told result ≡ line_answer address code.now buffer.old }
     ensures buffer { buffer.new ≡ line_buffer address code.now buffer.old }
 {
-    match list_line(address, code, buffer) {
-        Ok(listed) => LineAnswer {
-            number: 0,
-            line: listed.line as u8,
-            group: listed.group as u8,
-        },
-        Err(refusal) => LineAnswer {
-            number: refusal.number(),
-            line: 0,
-            group: 0,
-        },
-    }
+    LineAnswer::from(list_line(Code::at(address, code), buffer))
 }

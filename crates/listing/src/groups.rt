@@ -22,10 +22,10 @@ impl<'a> Group<'a> {
         ensures { result.now ≡ (said self.entry).bytes }
     {
         match self {
-            Group::OneByte(_, bytes) => bytes,
-            Group::Immediate(_, bytes) => bytes,
-            Group::ShortBranch(_, bytes) => bytes,
-            Group::LongBranch(_, bytes) => bytes,
+            Group::OneByte(_, bytes)
+            | Group::Immediate(_, bytes)
+            | Group::ShortBranch(_, bytes)
+            | Group::LongBranch(_, bytes) => bytes,
             Group::Byte(bytes) => bytes,
         }
     }
@@ -35,10 +35,10 @@ impl<'a> Group<'a> {
         ensures { result ≡ (said self.entry).instruction }
     {
         match self {
-            Group::OneByte(instruction, _) => Some(instruction),
-            Group::Immediate(instruction, _) => Some(instruction),
-            Group::ShortBranch(instruction, _) => Some(instruction),
-            Group::LongBranch(instruction, _) => Some(instruction),
+            Group::OneByte(instruction, _)
+            | Group::Immediate(instruction, _)
+            | Group::ShortBranch(instruction, _)
+            | Group::LongBranch(instruction, _) => Some(instruction),
             Group::Byte(_) => None,
         }
     }
@@ -78,9 +78,7 @@ fn grouped<'a>(instruction: Instruction, bytes: &'a [u8]) -> Group<'a>
     ensures { said result ≡ whole instruction bytes.now }
 {
     match instruction.operand() {
-        None => Group::OneByte(instruction, bytes),
-        Some(Operand::Register(_)) => Group::OneByte(instruction, bytes),
-        Some(Operand::Port(_)) => Group::OneByte(instruction, bytes),
+        None | Some(Operand::Register(_) | Operand::Port(_)) => Group::OneByte(instruction, bytes),
         Some(Operand::Immediate) => Group::Immediate(instruction, bytes),
         Some(Operand::ShortTarget) => Group::ShortBranch(instruction, bytes),
         Some(Operand::LongTarget) => Group::LongBranch(instruction, bytes),

@@ -1,10 +1,11 @@
 // The listing of a program: its bytes in groups, and a line of text for each group.
 //
-// `groups` parts the bytes into groups, `line` and `text` write the line of one, `lines` puts it into a caller's buffer,
-// `program` lists a whole program, and `c` has the functions for the terminal's C firmware.
+// `code` and `groups` part the bytes into groups, `line` and `text` write the line of one, `lines` puts it into a caller's
+// buffer, `program` lists a whole program, and `c` has the functions for the terminal's C firmware.
 #![tactic(auto)]
 
 pub mod c;
+pub mod code;
 pub mod groups;
 pub mod line;
 pub mod lines;

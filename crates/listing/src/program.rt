@@ -1,9 +1,9 @@
 // The listing of a whole program.
-ghost use Rattle.std.specs.Prelude.{◌≡◌, ◌+◌, ◌%◌, ◌^◌, ◌<◌, ◌≤◌, vec_len, vec_capacity, MatchResult};
+ghost use Rattle.std.specs.Prelude.{◌≡◌, ◌+◌, ◌^◌, ◌<◌, vec_len, vec_capacity, MatchResult};
 ghost use Rattle.listing.specs.Groups.{said};
 ghost use Rattle.listing.specs.Program.{Added, Full, Lists, NoRoom};
 
-use crate::groups::{Group, first_group};
+use crate::code::{Code, Placed};
 use crate::line::Line;
 use std::alloc::AllocError;
 
@@ -17,43 +17,30 @@ pub struct Listing {
 
 // Lists a program that begins at an address, behind a text. It fails for want of memory, and then only where the text had
 // no room for the lines.
-pub fn list_program(text: Vec<u8>, address: u16, code: &[u8]) -> Result<Listing, AllocError>
-    ensures { MatchResult result (λ l. Lists text.items address code.now l) (λ _. NoRoom (vec_capacity text) (vec_len text) address code.now) }
+pub fn list_program(text: Vec<u8>, code: Code<'_>) -> Result<Listing, AllocError>
+    ensures { MatchResult result (λ l. Lists text.items code.entry.address code.entry.bytes.now l) (λ _. NoRoom (vec_capacity text) (vec_len text) code.entry.address code.entry.bytes.now) }
 {
     let mut listing = Listing {
         text,
         instructions: 0,
         byte_groups: 0,
     };
-    let mut at = address;
-    let mut rest = code;
-    while let Some(group) = first_group(rest) {
-        listing.add(at, group)?;
-        let size = group.bytes().len();
-        at = behind(at, size);
-        rest = &rest[size..];
+    for placed in code {
+        listing.add(placed)?;
     }
     Ok(listing)
 }
 
-// The address behind some bytes. Addresses wrap past FFFF.
-fn behind(address: u16, size: usize) -> u16
-    requires { size ≤ 3 }
-    ensures { result ≡ (address + size) % 65536 }
-{
-    ((address as usize + size) % 65536) as u16
-}
-
 impl Listing {
     // The line of one group more.
-    fn add(&mut self, address: u16, group: Group<'_>) -> Result<(), AllocError>
+    fn add(&mut self, placed: Placed<'_>) -> Result<(), AllocError>
         requires instructions { self.old.instructions + 1 < 2 ^ 64 }
         requires bytes { self.old.byte_groups + 1 < 2 ^ 64 }
-        ensures { MatchResult result (λ _. Added address (said group.entry) self.old self.new) (λ _. Full address (said group.entry) self.old) }
+        ensures { MatchResult result (λ _. Added placed.entry.address (said placed.entry.group) self.old self.new) (λ _. Full placed.entry.address (said placed.entry.group) self.old) }
     {
-        let line = Line::of(address, group);
+        let line = Line::of(placed);
         self.text.extend_from_slice(line.text())?;
-        match group.instruction() {
+        match placed.group.instruction() {
             Some(_) => self.instructions += 1,
             None => self.byte_groups += 1,
         }

@@ -3,7 +3,7 @@
 
 use crate::names::Outside;
 use crate::tally::{Tally, Verdict};
-use anyhow::anyhow;
+use anyhow::{bail, ensure};
 use std::process::ExitCode;
 
 mod names;
@@ -25,14 +25,14 @@ fn run(rt: &HostRuntime) -> anyhow::Result<()> {
         let line = line?;
         let Some(outside) = Outside::of(line.as_str()) else {
             println!(rt; "no opcode and name: {line}")?;
-            return Err(anyhow!("a line is not two digits, a space and a name"));
+            bail!("a line is not two digits, a space and a name");
         };
         if u32::from(outside.opcode) != tally.tried {
             println!(rt; "out of order: {line}")?;
-            return Err(anyhow!("the opcodes do not come in order, one to a line"));
+            bail!("the opcodes do not come in order, one to a line");
         }
         let verdict = outside.verdict(rt.alloc())?;
-        if let Verdict::Differs = verdict {
+        if verdict == Verdict::Differs {
             println!(rt; "differs: {line}")?;
         }
         tally.count(verdict);
@@ -41,17 +41,14 @@ fn run(rt: &HostRuntime) -> anyhow::Result<()> {
 }
 
 fn print(rt: &HostRuntime, tally: &Tally) -> anyhow::Result<()> {
-    let tried = tally.tried;
-    let named = tally.named;
-    let illegal = tally.illegal;
-    let differing = tally.differing;
-    println!(rt; "opcodes tried: {tried}")?;
-    println!(rt; "listed under the outside name: {named}")?;
-    println!(rt; "listed as BYTE, and illegal outside: {illegal}")?;
-    println!(rt; "listed under another name: {differing}")?;
-    if differing > 0 || tried != 256 {
-        return Err(anyhow!("the listing and the outside names differ, or an opcode is missing"));
-    }
+    println!(rt; "opcodes tried: {}", tally.tried)?;
+    println!(rt; "listed under the outside name: {}", tally.named)?;
+    println!(rt; "listed as BYTE, and illegal outside: {}", tally.illegal)?;
+    println!(rt; "listed under another name: {}", tally.differing)?;
+    ensure!(
+        tally.differing == 0 && tally.tried == 256,
+        "the listing and the outside names differ, or an opcode is missing"
+    );
     Ok(())
 }
 

@@ -1,5 +1,6 @@
 // The names of an outside disassembler, beside those of the listing.
 use crate::tally::Verdict;
+use listing::code::Code;
 use listing::lines::list_line;
 use std::alloc::{AllocError, Global};
 
@@ -15,20 +16,18 @@ impl<'a> Outside<'a> {
     // A line such as `F8 LDI`.
     pub(crate) fn of(line: &'a str) -> Option<Outside<'a>> {
         let (digits, name) = line.split_once(' ')?;
-        match u8::from_str_radix(digits, 16) {
-            Ok(opcode) => Some(Outside {
-                digits,
-                opcode,
-                name,
-            }),
-            Err(_) => None,
-        }
+        let opcode = u8::from_str_radix(digits, 16).ok()?;
+        Some(Outside {
+            digits,
+            opcode,
+            name,
+        })
     }
 
     // Whether the line of this opcode, with zeros behind it, has this name, and nothing more than an operand behind it.
     pub(crate) fn verdict(&self, heap: Global) -> Result<Verdict, AllocError> {
         let mut line = [0u8; 24];
-        let Ok(answer) = list_line(0, &[self.opcode, 0, 0], &mut line) else {
+        let Ok(answer) = list_line(Code::at(0, &[self.opcode, 0, 0]), &mut line) else {
             return Ok(Verdict::Differs);
         };
         let zeros = match answer.group {
@@ -40,14 +39,10 @@ impl<'a> Outside<'a> {
         let name = if illegal { "BYTE" } else { self.name };
         let digits = self.digits;
         let text = format!(in heap; "0000 {digits}{zeros} {name}")?;
-        let end = line.get(text.len()).copied();
-        if !line.starts_with(text.as_bytes()) || (end != Some(b' ') && end != Some(b'\n')) {
-            return Ok(Verdict::Differs);
-        }
-        Ok(if illegal {
-            Verdict::Illegal
-        } else {
-            Verdict::Named
+        Ok(match line.strip_prefix(text.as_bytes()) {
+            Some([b' ' | b'\n', ..]) if illegal => Verdict::Illegal,
+            Some([b' ' | b'\n', ..]) => Verdict::Named,
+            _ => Verdict::Differs,
         })
     }
 }

@@ -1,11 +1,10 @@
-use Rattle.std.proofs.Common.{arith}
-use Rattle.listing.proofs.Grown.{grew_room, grew_full}
+use Rattle.std.proofs.Common.{List, ℕ, subst}
+use Rattle.listing.specs.Text.{Grew}
+use Rattle.listing.proofs.Grown.{grew_write}
 use Rattle.listing.proofs.line.Line.put.Goals as goal
 
-pub returns-then-at-lt24 : goal.returns-then-at-lt24
-returns-then-at-lt24 c =
-    grew_room c.args.self.now.bytes c.args.self.now.length c.args.byte (omega arith) (omega arith)
-
-pub returns-else-at-lt24 : goal.returns-else-at-lt24
-returns-else-at-lt24 c =
-    grew_full c.args.self.now.bytes c.args.self.now.length c.args.byte (omega arith) (omega arith) (omega arith)
+pub returns : goal.returns
+returns c =
+    let written = rw c.write-count.ensures.count at c.write-count.ensures.bytes in
+    subst (λ (text : List ℕ). Grew text c.args.text.now c.write-count.new.self.items) c.self.view_is
+    (grew_write c.self.inside.bytes.items c.args.text.now c.write-count.new.self.items c.self.invariant written)

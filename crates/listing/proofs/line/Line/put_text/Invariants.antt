@@ -1,7 +1,0 @@
-use Rattle.std.proofs.Common.{[], ◌∷◌, take}
-use Rattle.std.specs.List.{flat_map}
-use Rattle.listing.specs.Text.{Grew, text_of}
-use Rattle.listing.proofs.line.Line.put_text.Given as goal
-
-abbrev pub invariant-loop-byte : goal.invariant-loop-byte
-invariant-loop-byte l = Grew (text_of l.initial.self) (flat_map (λ b. b ∷ []) (take l.byte-index l.text)) (text_of l.self)
