@@ -49,7 +49,11 @@ impl Line {
     {
         match operand {
             None => self.put(b""),
-            Some(Operand::Register(register)) => self.put(&[b' ', b'R', hex_digit(register.digit())]),
+            Some(Operand::Register(register)) => self.put(&[
+                b' ',
+                b'R',
+                hex_digit(register.digit()),
+            ]),
             Some(Operand::Port(port)) => self.put(&[b' ', hex_digit(Digit::low(port.number()))]),
             Some(Operand::Immediate) => {
                 self.put(b" ");

@@ -1,3 +1,5 @@
+use Rattle.std.proofs.Common.{◌≡◌, Some, rules}
+use Rattle.isa.specs.declared.operands.Operand.TheVariants.{Immediate, ShortTarget, LongTarget}
 use Rattle.listing.proofs.Grown.{also}
 use Rattle.listing.proofs.line.Line.put_operand.Goals as goal
 
