@@ -3,7 +3,7 @@ ghost use Rattle.std.specs.Prelude.{◌≡◌, ◌%◌, ◌<◌};
 ghost use Rattle.isa.specs.Operands.{digit_of, register_of, number_of};
 
 // One of R(0) to R(F).
-#[derive(Clone, Copy)]
+#[derive(Clone, Copy, Debug, PartialEq, Eq)]
 pub enum Register {
     R0,
     R1,
@@ -58,7 +58,7 @@ impl Register {
 }
 
 // One of the seven ports of INP and OUT.
-#[derive(Clone, Copy)]
+#[derive(Clone, Copy, Debug, PartialEq, Eq)]
 pub enum Port {
     P1,
     P2,
