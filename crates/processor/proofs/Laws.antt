@@ -1,7 +1,18 @@
 -- The laws of a cycle, of every processor, memory and board. Assumes nothing.
-use Rattle.std.proofs.Common.{◌≡◌, ℕ, ◌-◌, ◌/◌, ◌<◌, ◌≤◌, min, Bool, true, false, cond, ◌&&◌, eqb, ◌⊎◌, List, length, get_or, Some, None, Option, sym, refl, ap, ◌∙◌, subst, inl, inr, arith, get_or-set_same, rules}
+use Rattle.std.proofs.Common.{◌≡◌, ℕ, ◌-◌, ◌/◌, ◌<◌, ◌≤◌, min, Bool, true, false, cond, ◌&&◌, eqb, ◌⊎◌, ◌≢◌, List, length, get_or, Some, None, Option, sym, refl, ap, ◌∙◌, subst, inl, inr, arith, get_or-set_same, rules}
 use Rattle.std.proofs.lemmas.Bool.Decides.{eqb_tells, nat_tests}
 use Rattle.board.specs.declared.signals.Announcement.{Announcement}
+use Rattle.board.specs.declared.signals.CycleName.{CycleName}
+use Rattle.board.specs.declared.signals.CycleName.TheVariants.{
+  Initialise,
+  Fetch,
+  Execute,
+  SecondExecute,
+  Idle,
+  DmaIn,
+  DmaOut,
+  Interrupt,
+}
 use Rattle.board.specs.declared.signals.Record.{Record}
 use Rattle.board.specs.declared.signals.Show.{Show}
 use Rattle.isa.proofs.Decoding.{in_appendix_a}
@@ -15,18 +26,6 @@ use Rattle.isa.specs.declared.operands.Register.{Register}
 use Rattle.execution.specs.Effects.{executed}
 use Rattle.registers.specs.Registers.{Sized, up}
 use Rattle.registers.specs.declared.registers.Registers.{Registers}
-use Rattle.processor.specs.declared.state.Coming.{Coming}
-use Rattle.processor.specs.declared.state.Coming.TheVariants.{
-  Initialise,
-  Fetch,
-  Execute,
-  SecondExecute,
-  Idle,
-  DmaIn,
-  DmaOut,
-  Interrupt,
-  Stopped,
-}
 use Rattle.processor.specs.declared.state.Cycle.{Cycle}
 use Rattle.processor.specs.declared.state.Cycle.TheVariants as cycle
 use Rattle.processor.specs.declared.state.Mode.{Mode}
@@ -39,35 +38,35 @@ use Rattle.processor.specs.Machine.{Machine, machine, registers_after, stepped, 
 use Rattle.processor.proofs.Kept.{execute_kept, second_kept}
 
 -- what holds of each cycle that the lines can lead to, and of the rest, holds of what they decide
-module _ (P : Coming → Type 0) (into : P DmaIn) (out : P DmaOut) (idle : P Idle) where
-  by_dma : (x y : Bool) (z : Coming) → P z → P (cond x DmaIn (cond y DmaOut z))
+module _ (P : CycleName → Type 0) (into : P DmaIn) (out : P DmaOut) (idle : P Idle) where
+  by_dma : (x y : Bool) (z : CycleName) → P z → P (cond x DmaIn (cond y DmaOut z))
   by_dma true y z p = into
   by_dma false true z p = out
   by_dma false false z p = p
 
-  by_interrupt : (i b : Bool) (rest : Coming) → (b ≡ true → P Interrupt) → P rest → P (cond (i && b) Interrupt rest)
+  by_interrupt : (i b : Bool) (rest : CycleName) → (b ≡ true → P Interrupt) → P rest → P (cond (i && b) Interrupt rest)
   by_interrupt true true rest int p = int refl
   by_interrupt true false rest int p = p
   by_interrupt false b rest int p = p
 
-  by_mode : (mode : Mode) (shown : Show) (b : Bool) (rest : Coming) → (mode ≡ Run → b ≡ true → P Interrupt) → P rest → P (unserved mode shown b rest)
+  by_mode : (mode : Mode) (shown : Show) (b : Bool) (rest : CycleName) → (mode ≡ Run → b ≡ true → P Interrupt) → P rest → P (unserved mode shown b rest)
   by_mode Load shown b rest int p = idle
   by_mode Run shown b rest int p = by_interrupt shown.interrupt b rest (int refl) p
 
-  by_lines : (mode : Mode) (shown : Show) (b : Bool) (rest : Coming) → (mode ≡ Run → b ≡ true → P Interrupt) → P rest → P (served mode shown b rest)
+  by_lines : (mode : Mode) (shown : Show) (b : Bool) (rest : CycleName) → (mode ≡ Run → b ≡ true → P Interrupt) → P rest → P (served mode shown b rest)
   by_lines mode shown b rest int p =
       by_dma shown.dma_in shown.dma_out (unserved mode shown b rest) (by_mode mode shown b rest int p)
 
 -- no request leads into an instruction
-served_left : (mode : Mode) (shown : Show) (b : Bool) (rest : Coming) (op : ℕ) → left_at rest op ≡ 0 → left_at (served mode shown b rest) op ≡ 0
-served_left mode shown b rest op e = by_lines (λ c. left_at c op ≡ 0) refl refl refl mode shown b rest (λ _ _. refl) e
+served_left : (mode : Mode) (shown : Show) (b : Bool) (rest : CycleName) (op : ℕ) → left_at (Some rest) op ≡ 0 → left_at (Some (served mode shown b rest)) op ≡ 0
+served_left mode shown b rest op e = by_lines (λ c. left_at (Some c) op ≡ 0) refl refl refl mode shown b rest (λ _ _. refl) e
 
-fetch_left : (op : ℕ) → left_at (cond (eqb op 0x68) Stopped Execute) op ≡ cycles_of op - 1
+fetch_left : (op : ℕ) → left_at (cond (eqb op 0x68) None (Some Execute)) op ≡ cycles_of op - 1
 fetch_left op = by (eqb op 0x68) (eqb_tells op 0x68)
   where
-    by : (t : Bool) → ((t ≡ true) × (op ≡ 0x68)) ⊎ ((t ≡ false) × (op ≡ 0x68 → ⊥)) → left_at (cond t Stopped Execute) op ≡ cycles_of op - 1
+    by : (t : Bool) → ((t ≡ true) × (op ≡ 0x68)) ⊎ ((t ≡ false) × (op ≡ 0x68 → ⊥)) → left_at (cond t None (Some Execute)) op ≡ cycles_of op - 1
     by true (inl p) = subst (λ n. 0 ≡ cycles_of n - 1) (sym p.1) refl
-    by true (inr p) = absurd (let f = p.0 in let z : ◌≡◌ {A = ℕ} 0 1 = cc in omega arith)
+    by true (inr p) = absurd (let f = p.0 in cc)
     by false x = refl
 
 -- class C has three cycles, all else at most two
@@ -78,58 +77,51 @@ short : (op : ℕ) → (op / 16 ≡ 0xC → ⊥) → cycles_of op ≤ 2
 short op e = grind (arith, nat_tests)
 
 -- the first execute of class C leaves one cycle, any other execute none
-execute_left : (op op' : ℕ) → op' ≡ op → (z : Coming) → left_at z op' ≡ 0
-    → left_at (cond (eqb (op' / 16) 0xC) SecondExecute z) op' ≡ cycles_of op - 1 - 1
+execute_left : (op op' : ℕ) → op' ≡ op → (z : CycleName) → left_at (Some z) op' ≡ 0
+    → left_at (Some (cond (eqb (op' / 16) 0xC) SecondExecute z)) op' ≡ cycles_of op - 1 - 1
 execute_left op op' e z none = by (eqb (op' / 16) 0xC) (eqb_tells (op' / 16) 0xC)
   where
     class : op' / 16 ≡ op / 16
     class = ap (λ n. n / 16) e
 
     by : (t : Bool) → ((t ≡ true) × (op' / 16 ≡ 0xC)) ⊎ ((t ≡ false) × (op' / 16 ≡ 0xC → ⊥))
-        → left_at (cond t SecondExecute z) op' ≡ cycles_of op - 1 - 1
+        → left_at (Some (cond t SecondExecute z)) op' ≡ cycles_of op - 1 - 1
     by true (inl p) = let a = ap cycles_of e in let l = long op (sym class ∙ p.1) in omega arith
-    by true (inr p) = absurd (let f = p.0 in let z : ◌≡◌ {A = ℕ} 0 1 = cc in omega arith)
-    by false (inl p) = absurd (let f = p.0 in let z : ◌≡◌ {A = ℕ} 0 1 = cc in omega arith)
+    by true (inr p) = absurd (let f = p.0 in cc)
+    by false (inl p) = absurd (let f = p.0 in cc)
     by false (inr p) = let b = short op (λ h. p.1 (class ∙ h)) in omega arith
 
 -- where the lines lead to an interrupt, the mode is run and it may come
-interrupted : (mode : Mode) (shown : Show) (b : Bool) (rest : Coming) → (rest ≡ Interrupt → ⊥)
+interrupted : (mode : Mode) (shown : Show) (b : Bool) (rest : CycleName) → (rest ≢ Interrupt)
     → served mode shown b rest ≡ Interrupt → (mode ≡ Run) × (b ≡ true)
 interrupted mode shown b rest other =
-    by_lines (λ z. z ≡ Interrupt → (mode ≡ Run) × (b ≡ true))
-    (λ e. absurd (let z : ◌≡◌ {A = ℕ} 0 1 = cc in omega arith))
-    (λ e. absurd (let z : ◌≡◌ {A = ℕ} 0 1 = cc in omega arith))
-    (λ e. absurd (let z : ◌≡◌ {A = ℕ} 0 1 = cc in omega arith))
+    by_lines (λ z. z ≡ Interrupt → (mode ≡ Run) × (b ≡ true)) (λ e. absurd (cc)) (λ e. absurd (cc)) (λ e. absurd (cc))
     mode shown b rest (λ r t _. (r, t)) (λ e. absurd (other e))
 
--- nothing is two cycles at once
-fetch_is_none : Fetch ≡ Interrupt → ⊥
-fetch_is_none e = let z : ◌≡◌ {A = ℕ} 0 1 = cc in omega arith
+rest_is_none : (t : Bool) → cond t Idle Fetch ≢ Interrupt
+rest_is_none true e = cc
+rest_is_none false e = cc
 
-rest_is_none : (t : Bool) → cond t Idle Fetch ≡ Interrupt → ⊥
-rest_is_none true e = let z : ◌≡◌ {A = ℕ} 0 1 = cc in omega arith
-rest_is_none false e = let z : ◌≡◌ {A = ℕ} 0 1 = cc in omega arith
-
-rest_left : (t : Bool) (op : ℕ) → left_at (cond t Idle Fetch) op ≡ 0
+rest_left : (t : Bool) (op : ℕ) → left_at (Some (cond t Idle Fetch)) op ≡ 0
 rest_left true op = refl
 rest_left false op = refl
 
 module _ (shown : List ℕ → Announcement → Show) (moved : List ℕ → Record → List ℕ) (mode : Mode) (s : Registers) (st : Store) (pos : List ℕ) where
   -- before a cycle, and after the one that is due, if any
-  abbrev at : Coming → Machine
+  abbrev at : Option CycleName → Machine
   at c = machine (record { registers = s; coming = c }) st pos
 
-  abbrev by : Coming → Option Cycle → Processor
-  by c o = (stepped_by shown moved mode o (at c)).processor
+  abbrev by : CycleName → Option Cycle → Processor
+  by c o = (stepped_by shown moved mode o (at (Some c))).processor
 
   -- what is shown in a cycle, and the registers after it
   abbrev lines : Cycle → Show
   lines c = shown pos (announced c s)
 
   abbrev after : Cycle → Registers
-  after c = registers_after shown c (at Stopped)
+  after c = registers_after shown c (at None)
 
-  none : (c : Cycle) (b : Bool) (rest : Coming) → left_at rest (after c).opcode ≡ 0 → left_at (served mode (lines c) b rest) (after c).opcode ≡ 0
+  none : (c : Cycle) (b : Bool) (rest : CycleName) → left_at (Some rest) (after c).opcode ≡ 0 → left_at (Some (served mode (lines c) b rest)) (after c).opcode ≡ 0
   none c b rest e = served_left mode (lines c) b rest (after c).opcode e
 
   paced_execute : (o : Option Instruction) → InAppendixA s.opcode o → left (by Execute (with_instruction cycle.Execute o)) ≡ cycles_of s.opcode - 1 - 1
@@ -145,16 +137,16 @@ module _ (shown : List ℕ → Announcement → Show) (moved : List ℕ → Reco
   paced_second (Some i) h =
       none (cycle.SecondExecute i) (after (cycle.SecondExecute i)).ie Fetch refl ∙ omega arith
 
-  paced_at : (c : Coming) → s.opcode < 256 → Paced (at c).processor (stepped shown moved mode (at c)).processor
-  paced_at Initialise h = none cycle.Initialise false Fetch refl
-  paced_at Fetch h = fetch_left _
-  paced_at Execute h = paced_execute (decoded s.opcode) (in_appendix_a s.opcode h)
-  paced_at SecondExecute h = paced_second (decoded s.opcode) (in_appendix_a s.opcode h)
-  paced_at Idle h = none cycle.Idle s.ie Idle refl
-  paced_at DmaIn h = none cycle.DmaIn s.ie Fetch refl
-  paced_at DmaOut h = none cycle.DmaOut s.ie Fetch refl
-  paced_at Interrupt h = none cycle.Interrupt false Fetch refl
-  paced_at Stopped h = refl
+  paced_at : (c : Option CycleName) → s.opcode < 256 → Paced (at c).processor (stepped shown moved mode (at c)).processor
+  paced_at (Some Initialise) h = none cycle.Initialise false Fetch refl
+  paced_at (Some Fetch) h = fetch_left _
+  paced_at (Some Execute) h = paced_execute (decoded s.opcode) (in_appendix_a s.opcode h)
+  paced_at (Some SecondExecute) h = paced_second (decoded s.opcode) (in_appendix_a s.opcode h)
+  paced_at (Some Idle) h = none cycle.Idle s.ie Idle refl
+  paced_at (Some DmaIn) h = none cycle.DmaIn s.ie Fetch refl
+  paced_at (Some DmaOut) h = none cycle.DmaOut s.ie Fetch refl
+  paced_at (Some Interrupt) h = none cycle.Interrupt false Fetch refl
+  paced_at None h = refl
 
   df_execute : (o : Option Instruction) → InAppendixA s.opcode o → alters_df s.opcode ≡ false → (by Execute (with_instruction cycle.Execute o)).registers.df ≡ s.df
   df_execute None h e = refl
@@ -164,16 +156,16 @@ module _ (shown : List ℕ → Announcement → Show) (moved : List ℕ → Reco
   df_second None = refl
   df_second (Some i) = (second_kept {b = false} i _ _ s).df refl
 
-  df_at : (c : Coming) → s.opcode < 256 → KeepsDf (at c).processor (stepped shown moved mode (at c)).processor
-  df_at Initialise h e = refl
-  df_at Fetch h e = refl
-  df_at Execute h e = df_execute (decoded s.opcode) (in_appendix_a s.opcode h) (e refl)
-  df_at SecondExecute h e = df_second (decoded s.opcode)
-  df_at Idle h e = refl
-  df_at DmaIn h e = refl
-  df_at DmaOut h e = refl
-  df_at Interrupt h e = refl
-  df_at Stopped h e = refl
+  df_at : (c : Option CycleName) → s.opcode < 256 → KeepsDf (at c).processor (stepped shown moved mode (at c)).processor
+  df_at (Some Initialise) h e = refl
+  df_at (Some Fetch) h e = refl
+  df_at (Some Execute) h e = df_execute (decoded s.opcode) (in_appendix_a s.opcode h) (e refl)
+  df_at (Some SecondExecute) h e = df_second (decoded s.opcode)
+  df_at (Some Idle) h e = refl
+  df_at (Some DmaIn) h e = refl
+  df_at (Some DmaOut) h e = refl
+  df_at (Some Interrupt) h e = refl
+  df_at None h e = refl
 
   opcode_execute : (o : Option Instruction) → (by Execute (with_instruction cycle.Execute o)).registers.opcode ≡ s.opcode
   opcode_execute None = refl
@@ -183,67 +175,67 @@ module _ (shown : List ℕ → Announcement → Show) (moved : List ℕ → Reco
   opcode_second None = refl
   opcode_second (Some i) = (second_kept {b = false} i _ _ s).opcode
 
-  opcode_at : (c : Coming) → KeepsOpcode (at c).processor (stepped shown moved mode (at c)).processor
-  opcode_at Initialise e = refl
-  opcode_at Fetch e = absurd (e refl)
-  opcode_at Execute e = opcode_execute (decoded s.opcode)
-  opcode_at SecondExecute e = opcode_second (decoded s.opcode)
-  opcode_at Idle e = refl
-  opcode_at DmaIn e = refl
-  opcode_at DmaOut e = refl
-  opcode_at Interrupt e = refl
-  opcode_at Stopped e = refl
+  opcode_at : (c : Option CycleName) → KeepsOpcode (at c).processor (stepped shown moved mode (at c)).processor
+  opcode_at (Some Initialise) e = refl
+  opcode_at (Some Fetch) e = absurd (e refl)
+  opcode_at (Some Execute) e = opcode_execute (decoded s.opcode)
+  opcode_at (Some SecondExecute) e = opcode_second (decoded s.opcode)
+  opcode_at (Some Idle) e = refl
+  opcode_at (Some DmaIn) e = refl
+  opcode_at (Some DmaOut) e = refl
+  opcode_at (Some Interrupt) e = refl
+  opcode_at None e = refl
 
   -- an interrupt after a cycle that is not the initialising one
-  allowed : (c : Cycle) (rest : Coming) → (rest ≡ Interrupt → ⊥) → served mode (lines c) (after c).ie rest ≡ Interrupt
+  allowed : (c : Cycle) (rest : CycleName) → (rest ≢ Interrupt) → served mode (lines c) (after c).ie rest ≡ Interrupt
       → (mode ≡ Run) × ((after c).ie ≡ true)
   allowed c rest other e = interrupted mode (lines c) (after c).ie rest other e
 
-  interrupts_execute : (o : Option Instruction) → (by Execute (with_instruction cycle.Execute o)).coming ≡ Interrupt
+  interrupts_execute : (o : Option Instruction) → (by Execute (with_instruction cycle.Execute o)).coming ≡ Some Interrupt
       → (mode ≡ Run) × ((by Execute (with_instruction cycle.Execute o)).registers.ie ≡ true)
-  interrupts_execute None e = absurd (let z : ◌≡◌ {A = ℕ} 0 1 = cc in omega arith)
+  interrupts_execute None e = absurd (cc)
   interrupts_execute (Some i) e =
       let c = cycle.Execute i in
       let op = (after c).opcode in
-      execute_interrupts (eqb (op / 16) 0xC) (served mode (lines c) (after c).ie (cond (eqb op 0x00) Idle Fetch)) e
+      execute_interrupts (eqb (op / 16) 0xC) (served mode (lines c) (after c).ie (cond (eqb op 0x00) Idle Fetch)) (cc)
       (allowed c (cond (eqb op 0x00) Idle Fetch) (rest_is_none (eqb op 0x00)))
     where
-      execute_interrupts : {A : Type 0} (t : Bool) (z : Coming) → cond t SecondExecute z ≡ Interrupt → (z ≡ Interrupt → A) → A
-      execute_interrupts true z e f = absurd (let z : ◌≡◌ {A = ℕ} 0 1 = cc in omega arith)
+      execute_interrupts : {A : Type 0} (t : Bool) (z : CycleName) → cond t SecondExecute z ≡ Interrupt → (z ≡ Interrupt → A) → A
+      execute_interrupts true z e f = absurd (cc)
       execute_interrupts false z e f = f e
 
-  interrupts_second : (o : Option Instruction) → (by SecondExecute (with_instruction cycle.SecondExecute o)).coming ≡ Interrupt
+  interrupts_second : (o : Option Instruction) → (by SecondExecute (with_instruction cycle.SecondExecute o)).coming ≡ Some Interrupt
       → (mode ≡ Run) × ((by SecondExecute (with_instruction cycle.SecondExecute o)).registers.ie ≡ true)
-  interrupts_second None e = absurd (let z : ◌≡◌ {A = ℕ} 0 1 = cc in omega arith)
-  interrupts_second (Some i) e = allowed (cycle.SecondExecute i) Fetch fetch_is_none e
+  interrupts_second None e = absurd (cc)
+  interrupts_second (Some i) e = allowed (cycle.SecondExecute i) Fetch (λ f. cc) (cc)
 
-  interrupts_at : (c : Coming) → InterruptsIn mode (at c).processor (stepped shown moved mode (at c)).processor
-  interrupts_at Initialise e =
-      absurd (let f = (interrupted mode (lines cycle.Initialise) false Fetch fetch_is_none e).1 in let z : ◌≡◌ {A = ℕ} 0 1 = cc in omega arith)
-  interrupts_at Fetch e = absurd (fetched _ e)
+  interrupts_at : (c : Option CycleName) → InterruptsIn mode (at c).processor (stepped shown moved mode (at c)).processor
+  interrupts_at (Some Initialise) e =
+      absurd (let f = (interrupted mode (lines cycle.Initialise) false Fetch (λ f. cc) (cc)).1 in cc)
+  interrupts_at (Some Fetch) e = absurd (fetched _ e)
     where
-      fetched : (t : Bool) → cond t Stopped Execute ≡ Interrupt → ⊥
-      fetched true e = let z : ◌≡◌ {A = ℕ} 0 1 = cc in omega arith
-      fetched false e = let z : ◌≡◌ {A = ℕ} 0 1 = cc in omega arith
-  interrupts_at Execute e =
+      fetched : (t : Bool) → cond t None (Some Execute) ≡ Some Interrupt → ⊥
+      fetched true e = cc
+      fetched false e = cc
+  interrupts_at (Some Execute) e =
       let a = interrupts_execute (decoded s.opcode) e in
-      (a.0, a.1, λ f. let z : ◌≡◌ {A = ℕ} 0 1 = cc in omega arith)
-  interrupts_at SecondExecute e =
+      (a.0, a.1, λ f. cc)
+  interrupts_at (Some SecondExecute) e =
       let a = interrupts_second (decoded s.opcode) e in
-      (a.0, a.1, λ f. let z : ◌≡◌ {A = ℕ} 0 1 = cc in omega arith)
-  interrupts_at Idle e =
-      let a = allowed cycle.Idle Idle (λ f. let z : ◌≡◌ {A = ℕ} 0 1 = cc in omega arith) e in
-      (a.0, a.1, λ f. let z : ◌≡◌ {A = ℕ} 0 1 = cc in omega arith)
-  interrupts_at DmaIn e =
-      let a = allowed cycle.DmaIn Fetch fetch_is_none e in
-      (a.0, a.1, λ f. let z : ◌≡◌ {A = ℕ} 0 1 = cc in omega arith)
-  interrupts_at DmaOut e =
-      let a = allowed cycle.DmaOut Fetch fetch_is_none e in
-      (a.0, a.1, λ f. let z : ◌≡◌ {A = ℕ} 0 1 = cc in omega arith)
-  interrupts_at Interrupt e =
-      let a = allowed cycle.Interrupt Fetch fetch_is_none e in
-      (a.0, a.1, λ f. let z : ◌≡◌ {A = ℕ} 0 1 = cc in omega arith)
-  interrupts_at Stopped e = absurd (let z : ◌≡◌ {A = ℕ} 0 1 = cc in omega arith)
+      (a.0, a.1, λ f. cc)
+  interrupts_at (Some Idle) e =
+      let a = allowed cycle.Idle Idle (λ f. cc) (cc) in
+      (a.0, a.1, λ f. cc)
+  interrupts_at (Some DmaIn) e =
+      let a = allowed cycle.DmaIn Fetch (λ f. cc) (cc) in
+      (a.0, a.1, λ f. cc)
+  interrupts_at (Some DmaOut) e =
+      let a = allowed cycle.DmaOut Fetch (λ f. cc) (cc) in
+      (a.0, a.1, λ f. cc)
+  interrupts_at (Some Interrupt) e =
+      let a = allowed cycle.Interrupt Fetch (λ f. cc) (cc) in
+      (a.0, a.1, λ f. cc)
+  interrupts_at None e = absurd (cc)
 
 digit_lt : (w : Register) → digit_of w < 16
 digit_lt w = search rules

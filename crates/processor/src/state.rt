@@ -2,27 +2,15 @@
 ghost use Rattle.std.specs.Prelude.{◌≡◌};
 ghost use Rattle.processor.specs.Cycles.{due, fresh};
 
+use board::signals::CycleName;
 use isa::instructions::{Instruction, decode};
 use registers::registers::Registers;
-
-// The coming cycle, or that the processor is stopped.
-#[derive(Clone, Copy)]
-pub enum Coming {
-    Initialise,
-    Fetch,
-    Execute,
-    SecondExecute,
-    Idle,
-    DmaIn,
-    DmaOut,
-    Interrupt,
-    Stopped,
-}
 
 #[derive(Clone, Copy)]
 pub struct Processor {
     pub registers: Registers,
-    pub coming: Coming,
+    // the coming cycle; with none the processor is stopped
+    pub coming: Option<CycleName>,
 }
 
 // A cycle that is due; an execute has its instruction with it.
@@ -52,7 +40,7 @@ impl Processor {
     {
         Processor {
             registers: Registers::new(),
-            coming: Coming::Initialise,
+            coming: Some(CycleName::Initialise),
         }
     }
 
@@ -61,16 +49,15 @@ impl Processor {
     pub fn due(&self) -> Option<Cycle>
         ensures { result ≡ due self.now }
     {
-        Some(match self.coming {
-            Coming::Initialise => Cycle::Initialise,
-            Coming::Fetch => Cycle::Fetch,
-            Coming::Execute => Cycle::Execute(decode(self.registers.opcode)?),
-            Coming::SecondExecute => Cycle::SecondExecute(decode(self.registers.opcode)?),
-            Coming::Idle => Cycle::Idle,
-            Coming::DmaIn => Cycle::DmaIn,
-            Coming::DmaOut => Cycle::DmaOut,
-            Coming::Interrupt => Cycle::Interrupt,
-            Coming::Stopped => return None,
+        Some(match self.coming? {
+            CycleName::Initialise => Cycle::Initialise,
+            CycleName::Fetch => Cycle::Fetch,
+            CycleName::Execute => Cycle::Execute(decode(self.registers.opcode)?),
+            CycleName::SecondExecute => Cycle::SecondExecute(decode(self.registers.opcode)?),
+            CycleName::Idle => Cycle::Idle,
+            CycleName::DmaIn => Cycle::DmaIn,
+            CycleName::DmaOut => Cycle::DmaOut,
+            CycleName::Interrupt => Cycle::Interrupt,
         })
     }
 }

@@ -3,7 +3,7 @@
 ghost use Rattle.std.specs.Prelude.{◌≡◌};
 ghost use Rattle.processor.specs.Cycles.{accessed, affected, announced, comes_next, lines_of, name_of, served, takes};
 
-use crate::state::{Coming, Cycle, Mode};
+use crate::state::{Cycle, Mode};
 use board::signals::{Announcement, CycleName, Show};
 use execution::access::{Access, execute_access, second_access};
 use execution::conditions::taken;
@@ -110,39 +110,39 @@ impl Cycle {
     }
 
     // What comes after the cycle, by the registers as it left them and by the lines shown in it.
-    pub fn next(self, mode: Mode, registers: &Registers, show: Show) -> Coming
+    pub fn next(self, mode: Mode, registers: &Registers, show: Show) -> Option<CycleName>
         ensures { result ≡ comes_next self mode registers.now show }
     {
-        match self {
-            Cycle::Fetch if registers.opcode == 0x68 => Coming::Stopped,
-            Cycle::Fetch => Coming::Execute,
-            Cycle::Execute(_) if registers.i() == 0xc => Coming::SecondExecute,
+        Some(match self {
+            Cycle::Fetch if registers.opcode == 0x68 => return None,
+            Cycle::Fetch => CycleName::Execute,
+            Cycle::Execute(_) if registers.i() == 0xc => CycleName::SecondExecute,
             Cycle::Execute(_) if registers.opcode == 0x00 => serve(
                 mode,
                 show,
                 registers.ie,
-                Coming::Idle,
+                CycleName::Idle,
             ),
-            Cycle::Idle => serve(mode, show, registers.ie, Coming::Idle),
-            Cycle::Initialise => serve(mode, show, false, Coming::Fetch),
-            _ => serve(mode, show, registers.ie, Coming::Fetch),
-        }
+            Cycle::Idle => serve(mode, show, registers.ie, CycleName::Idle),
+            Cycle::Initialise => serve(mode, show, false, CycleName::Fetch),
+            _ => serve(mode, show, registers.ie, CycleName::Fetch),
+        })
     }
 }
 
 // The order of the request lines: DMA-in, DMA-out, and in run interrupt, where it may come. With none, load idles.
-fn serve(mode: Mode, show: Show, interruptible: bool, rest: Coming) -> Coming
+fn serve(mode: Mode, show: Show, interruptible: bool, rest: CycleName) -> CycleName
     ensures { result ≡ served mode show interruptible rest }
 {
     if show.dma_in {
-        return Coming::DmaIn;
+        return CycleName::DmaIn;
     }
     if show.dma_out {
-        return Coming::DmaOut;
+        return CycleName::DmaOut;
     }
     match mode {
-        Mode::Load => Coming::Idle,
-        Mode::Run if show.interrupt && interruptible => Coming::Interrupt,
+        Mode::Load => CycleName::Idle,
+        Mode::Run if show.interrupt && interruptible => CycleName::Interrupt,
         Mode::Run => rest,
     }
 }
