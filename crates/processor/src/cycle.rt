@@ -12,6 +12,7 @@ use memory::meaning::Memory;
 impl Processor {
     // Runs the cycle that is due, and answers its record; where none is due, as the processor is stopped, nothing changes and
     // there is none.
+    #[tactic(auto, using(crate::proofs::Laws::laws))]
     pub fn cycle<M: Memory, B: Board>(
         &mut self,
         mode: Mode,
@@ -27,21 +28,6 @@ impl Processor {
         ensures returning { StepsOldX self.old self.new }
         ensures input { LoadsBus B.shown (B.position board.old) self.old self.new }
         ensures interrupts { InterruptsIn mode self.old self.new }
-    {
-        self.registers.sized();
-        self.step(mode, memory, board)
-    }
-
-    // The same without the laws, which are shown above once for all cycles.
-    fn step<M: Memory, B: Board>(
-        &mut self,
-        mode: Mode,
-        memory: &mut M,
-        board: &mut B,
-    ) -> Option<Record>
-        ensures after { machine self.new (M.store memory.new) (B.position board.new) ≡ stepped B.shown B.moved mode (machine self.old (M.store memory.old) (B.position board.old)) }
-        ensures told { result ≡ told_in B.shown (machine self.old (M.store memory.old) (B.position board.old)) }
-        ensures built { M.form memory.new ≡ M.form memory.old }
     {
         let cycle = self.due()?;
         Some(self.turn(cycle, mode, memory, board))

@@ -1,6 +1,7 @@
 // What a processor holds, and which cycle is due.
 ghost use Rattle.std.specs.Prelude.{◌≡◌};
 ghost use Rattle.processor.specs.Cycles.{due, fresh};
+ghost use Rattle.registers.specs.Registers.{Sized};
 
 use board::signals::CycleName;
 use isa::instructions::{Instruction, decode};
@@ -46,8 +47,9 @@ impl Processor {
 
     // The cycle that is due, or none where the processor is stopped; an execute of 68, to which no cycle leads, is none too.
     // The opcode is decoded here and nowhere else in a cycle.
-    pub fn due(&self) -> Option<Cycle>
-        ensures { result ≡ due self.now }
+    pub fn due(self) -> Option<Cycle>
+        ensures value { result ≡ due self }
+        ensures sized { Sized self.registers }
     {
         Some(match self.coming? {
             CycleName::Initialise => Cycle::Initialise,
