@@ -28,7 +28,7 @@ opcode_kept c t m s h = grind (arith, ended_keeps)
 
 pub opcode_law : (o : Option CycleName) (c : Cycle) (t : Bool) (m : ℕ) (s : Registers) → due_at o s.opcode ≡ Some c
     → o ≢ Some name.Fetch → (affected c t m s).opcode ≡ s.opcode
-opcode_law o c t m s e h = grind (arith, ended_keeps)
+opcode_law o c t m s e h = grind (arith, opcode_kept)
 
 -- only the execute of an instruction of arithmetic or a shift alters DF
 abbrev alters : Cycle → Bool
@@ -79,4 +79,4 @@ paced_law o c t m s mode shown e =
 pub idle_law : (o : Option CycleName) (op : ℕ) → op < 256 → due_at o op ≡ None → left_at o op ≡ left_after o (left_at o op) op
 idle_law o op b e = grind (arith, nat_tests, in_appendix_a)
 
-pub ruleset laws = (paced_law, idle_law, opcode_law, df_law, interrupts_law)
+pub ruleset laws = (paced_law, idle_law, opcode_law, interrupts_law)

@@ -46,7 +46,8 @@ impl Processor {
     }
 
     // The cycle that is due, or none where the processor is stopped; an execute of 68, to which no cycle leads, is none too.
-    // The opcode is decoded here and nowhere else in a cycle.
+    // The opcode is decoded here and nowhere else in a cycle. `sized` is what the types of the registers say: a proof knows it of
+    // a processor that is handed over by value.
     pub fn due(self) -> Option<Cycle>
         ensures value { result ≡ due self }
         ensures sized { Sized self.registers }
