@@ -9,7 +9,7 @@ use Rattle.board.specs.declared.signals.CycleName.{CycleName}
 use Rattle.board.specs.declared.signals.CycleName.TheVariants as name
 use Rattle.board.specs.declared.signals.Show.{Show}
 use Rattle.execution.specs.declared.access.Access.{Access}
-use Rattle.execution.specs.declared.access.Access.TheVariants.{Reads, Writes, Nothing}
+use Rattle.execution.specs.declared.access.Access.TheVariants.{Reads, Writes}
 use Rattle.registers.specs.declared.registers.Registers.{Registers}
 use Rattle.execution.specs.Accesses.{execute_access, second_access}
 use Rattle.execution.specs.Conditions.{taken}
@@ -90,16 +90,16 @@ takes DmaIn s shown = false
 takes DmaOut s shown = false
 takes Interrupt s shown = false
 
--- the byte that a cycle uses
-abbrev pub accessed : Cycle → Registers → ℕ → Bool → Access
-accessed Initialise s bus t = Nothing
-accessed Fetch s bus t = Reads (r_p s)
+-- the byte that a cycle uses, if any
+abbrev pub accessed : Cycle → Registers → ℕ → Bool → Option Access
+accessed Initialise s bus t = None
+accessed Fetch s bus t = Some (Reads (r_p s))
 accessed (Execute i) s bus t = execute_access i s bus t
 accessed (SecondExecute i) s bus t = second_access i s t
-accessed Idle s bus t = Reads (reg R0 s)
-accessed DmaIn s bus t = Writes (reg R0 s) bus
-accessed DmaOut s bus t = Reads (reg R0 s)
-accessed Interrupt s bus t = Nothing
+accessed Idle s bus t = Some (Reads (reg R0 s))
+accessed DmaIn s bus t = Some (Writes (reg R0 s) bus)
+accessed DmaOut s bus t = Some (Reads (reg R0 s))
+accessed Interrupt s bus t = None
 
 -- what a cycle does to the registers: m is the byte that it read or wrote
 abbrev pub affected : Cycle → Bool → ℕ → Registers → Registers

@@ -7,7 +7,7 @@ use board::signals::CycleName;
 use isa::instructions::{Instruction, decode};
 use registers::registers::Registers;
 
-#[derive(Clone, Copy)]
+#[derive(Clone, Copy, Debug, PartialEq, Eq)]
 pub struct Processor {
     pub registers: Registers,
     // the coming cycle; with none the processor is stopped
@@ -28,7 +28,7 @@ pub enum Cycle {
 }
 
 // The modes in which cycles are run.
-#[derive(Clone, Copy)]
+#[derive(Clone, Copy, Debug, PartialEq, Eq)]
 pub enum Mode {
     Load,
     Run,

@@ -60,19 +60,17 @@ impl Cycle {
         }
     }
 
-    // The byte that the cycle uses, by the registers before it, the bus byte, and whether its instruction is taken.
-    pub fn access(self, registers: &Registers, bus: u8, taken: bool) -> Access
+    // The byte that the cycle uses, if any, by the registers before it, the bus byte, and whether its instruction is taken.
+    pub fn access(self, registers: &Registers, bus: u8, taken: bool) -> Option<Access>
         ensures { result ≡ accessed self registers.now bus taken }
     {
         match self {
-            Cycle::Initialise => Access::Nothing,
-            Cycle::Fetch => Access::Reads(registers.r_p()),
+            Cycle::Initialise | Cycle::Interrupt => None,
+            Cycle::Fetch => Some(Access::Reads(registers.r_p())),
             Cycle::Execute(instruction) => execute_access(instruction, registers, bus, taken),
             Cycle::SecondExecute(instruction) => second_access(instruction, registers, taken),
-            Cycle::Idle => Access::Reads(registers.reg(Register::R0)),
-            Cycle::DmaIn => Access::Writes(registers.reg(Register::R0), bus),
-            Cycle::DmaOut => Access::Reads(registers.reg(Register::R0)),
-            Cycle::Interrupt => Access::Nothing,
+            Cycle::Idle | Cycle::DmaOut => Some(Access::Reads(registers.reg(Register::R0))),
+            Cycle::DmaIn => Some(Access::Writes(registers.reg(Register::R0), bus)),
         }
     }
 
@@ -98,8 +96,7 @@ impl Cycle {
                 byte,
             ),
             Cycle::Idle => {}
-            Cycle::DmaIn => registers.up(Register::R0),
-            Cycle::DmaOut => registers.up(Register::R0),
+            Cycle::DmaIn | Cycle::DmaOut => registers.up(Register::R0),
             Cycle::Interrupt => {
                 registers.t = registers.xp();
                 registers.x = Register::R2;
