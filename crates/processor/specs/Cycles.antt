@@ -67,28 +67,17 @@ name_of Interrupt = name.Interrupt
 
 -- the N lines: N's low three bits in the execute of class 6, else 0
 abbrev pub lines_of : Cycle → Registers → ℕ
-lines_of Initialise s = 0
-lines_of Fetch s = 0
 lines_of (Execute i) s = cond (class_i s == 0x6) (digit_n s % 8) 0
-lines_of (SecondExecute i) s = 0
-lines_of Idle s = 0
-lines_of DmaIn s = 0
-lines_of DmaOut s = 0
-lines_of Interrupt s = 0
+lines_of _ s = 0
 
 abbrev pub announced : Cycle → Registers → Announcement
 announced c s = record { name = name_of c; lines = lines_of c s; q = s.q }
 
 -- whether the instruction of an execute is taken
 abbrev pub takes : Cycle → Registers → Show → Bool
-takes Initialise s shown = false
-takes Fetch s shown = false
 takes (Execute i) s shown = taken i s shown
 takes (SecondExecute i) s shown = taken i s shown
-takes Idle s shown = false
-takes DmaIn s shown = false
-takes DmaOut s shown = false
-takes Interrupt s shown = false
+takes _ s shown = false
 
 -- the byte that a cycle uses, if any
 abbrev pub accessed : Cycle → Registers → ℕ → Bool → Option Access

@@ -1,21 +1,12 @@
 -- What the cycles come to, in the subject's words. Each law is one of a processor before and after a cycle.
 -- Assumes nothing.
-use Rattle.std.specs.Prelude.{◌≡◌, ℕ, ◌+◌, ◌-◌, ◌%◌, min, Bool, true, false, ◌||◌, List, Some, None, Option, ◌≢◌}
+use Rattle.std.specs.Prelude.{◌≡◌, ℕ, ◌+◌, ◌-◌, ◌%◌, min, Bool, true, false, ◌||◌, List, Some, Option, ◌≢◌}
 use Rattle.isa.specs.Table.{cycles_of, within}
 use Rattle.isa.specs.declared.instructions.Instruction.TheVariants.{Inp, Ret, Dis}
 use Rattle.isa.specs.declared.operands.Port.{Port}
 use Rattle.board.specs.declared.signals.Announcement.{Announcement}
 use Rattle.board.specs.declared.signals.CycleName.{CycleName}
-use Rattle.board.specs.declared.signals.CycleName.TheVariants.{
-  Initialise,
-  Fetch,
-  Execute,
-  SecondExecute,
-  Idle,
-  DmaIn,
-  DmaOut,
-  Interrupt,
-}
+use Rattle.board.specs.declared.signals.CycleName.TheVariants.{Initialise, Fetch, Execute, SecondExecute, Interrupt}
 use Rattle.board.specs.declared.signals.Show.{Show}
 use Rattle.registers.specs.Registers.{reg}
 use Rattle.processor.specs.declared.state.Cycle.TheVariants as cycle
@@ -27,30 +18,19 @@ use Rattle.processor.specs.Cycles.{announced, due}
 -- how many cycles are left of the instruction that is under way: before its execute all of the opcode table but the fetch,
 -- before its second execute one; 68 has none left
 abbrev pub left_at : Option CycleName → ℕ → ℕ
-left_at (Some Initialise) op = 0
-left_at (Some Fetch) op = 0
 left_at (Some Execute) op = cycles_of op - 1
 left_at (Some SecondExecute) op = min 1 (cycles_of op - 1)
-left_at (Some Idle) op = 0
-left_at (Some DmaIn) op = 0
-left_at (Some DmaOut) op = 0
-left_at (Some Interrupt) op = 0
-left_at None op = 0
+left_at _ op = 0
 
 abbrev pub left : Processor → ℕ
 left s = left_at s.coming s.registers.opcode
 
 -- how many are left after a cycle: a fetch is the first of its instruction's, and each execute is one of them
 abbrev pub left_after : Option CycleName → ℕ → ℕ → ℕ
-left_after (Some Initialise) before op = 0
 left_after (Some Fetch) before op = cycles_of op - 1
 left_after (Some Execute) before op = before - 1
 left_after (Some SecondExecute) before op = before - 1
-left_after (Some Idle) before op = 0
-left_after (Some DmaIn) before op = 0
-left_after (Some DmaOut) before op = 0
-left_after (Some Interrupt) before op = 0
-left_after None before op = 0
+left_after _ before op = 0
 
 -- An instruction has just the cycles of the opcode table, taken or not, and they follow each other: while some are left, the
 -- coming cycle is one of them, so no DMA or interrupt cycle parts a fetch from its executes.

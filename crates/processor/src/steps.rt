@@ -54,8 +54,7 @@ impl Cycle {
         ensures { result ≡ takes self registers.now show }
     {
         match self {
-            Cycle::Execute(instruction) => taken(instruction, registers, show),
-            Cycle::SecondExecute(instruction) => taken(instruction, registers, show),
+            Cycle::Execute(i) | Cycle::SecondExecute(i) => taken(i, registers, show),
             _ => false,
         }
     }
