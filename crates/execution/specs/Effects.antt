@@ -1,5 +1,6 @@
 -- What an execute cycle does to the registers: t says whether the instruction is taken, m is the byte that was read or written.
 -- Assumes nothing.
+use Rattle.std.specs.Bool.{then_some}
 use Rattle.std.specs.Prelude.{ℕ, ◌+◌, ◌*◌, ◌/◌, ◌%◌, Bool, true, false, Some, None, Option}
 use Rattle.std.specs.Int.Bits.{bit_and, bit_or, bit_xor}
 use Rattle.alu.specs.Arithmetic.{sum, carry, difference, not_below}
@@ -136,20 +137,20 @@ shifted_left c s = set_pair (left s.d c) (left_bit s.d) s
 abbrev pub returned : Bool → ℕ → Registers → Registers
 returned ie m s = set_ie ie (set_p (low_digit m) (set_x (high_digit m) (up s.x s)))
 
--- a short branch: m → R(P).0 where it is taken, else R(P)+1
-abbrev pub branched : Bool → ℕ → Registers → Registers
-branched true m s = set_low s.p m s
-branched false m s = past_operand s
+-- a short branch, with the operand of one that is taken: m → R(P).0, else R(P)+1
+abbrev pub branched : Option ℕ → Registers → Registers
+branched (Some m) s = set_low s.p m s
+branched None s = past_operand s
 
 -- the first half of a long branch: m → B where it is taken; R(P)+1
-abbrev pub long_begun : Bool → ℕ → Registers → Registers
-long_begun true m s = past_operand (set_b m s)
-long_begun false m s = past_operand s
+abbrev pub long_begun : Option ℕ → Registers → Registers
+long_begun (Some m) s = past_operand (set_b m s)
+long_begun None s = past_operand s
 
 -- the second half: B → R(P).1 and m → R(P).0 where it is taken, else R(P)+1
-abbrev pub long_ended : Bool → ℕ → Registers → Registers
-long_ended true m s = set_reg s.p (s.b * 256 + m) s
-long_ended false m s = past_operand s
+abbrev pub long_ended : Option ℕ → Registers → Registers
+long_ended (Some m) s = set_reg s.p (s.b * 256 + m) s
+long_ended None s = past_operand s
 
 -- each half of a long skip: R(P)+1 where it is taken
 abbrev pub skipped : Bool → Registers → Registers
@@ -162,22 +163,22 @@ executed Idl t m s = s
 executed (Ldn n) t m s = set_d m s
 executed (Inc n) t m s = up n s
 executed (Dec n) t m s = down n s
-executed Br t m s = branched t m s
-executed Bq t m s = branched t m s
-executed Bz t m s = branched t m s
-executed Bdf t m s = branched t m s
-executed B1 t m s = branched t m s
-executed B2 t m s = branched t m s
-executed B3 t m s = branched t m s
-executed B4 t m s = branched t m s
+executed Br t m s = branched (then_some t m) s
+executed Bq t m s = branched (then_some t m) s
+executed Bz t m s = branched (then_some t m) s
+executed Bdf t m s = branched (then_some t m) s
+executed B1 t m s = branched (then_some t m) s
+executed B2 t m s = branched (then_some t m) s
+executed B3 t m s = branched (then_some t m) s
+executed B4 t m s = branched (then_some t m) s
 executed Skp t m s = past_operand s
-executed Bnq t m s = branched t m s
-executed Bnz t m s = branched t m s
-executed Bnf t m s = branched t m s
-executed Bn1 t m s = branched t m s
-executed Bn2 t m s = branched t m s
-executed Bn3 t m s = branched t m s
-executed Bn4 t m s = branched t m s
+executed Bnq t m s = branched (then_some t m) s
+executed Bnz t m s = branched (then_some t m) s
+executed Bnf t m s = branched (then_some t m) s
+executed Bn1 t m s = branched (then_some t m) s
+executed Bn2 t m s = branched (then_some t m) s
+executed Bn3 t m s = branched (then_some t m) s
+executed Bn4 t m s = branched (then_some t m) s
 executed (Lda n) t m s = up n (set_d m s)
 executed (Str n) t m s = s
 executed Irx t m s = up s.x s
@@ -203,18 +204,18 @@ executed (Glo n) t m s = set_d (reg n s % 256) s
 executed (Ghi n) t m s = set_d (reg n s / 256) s
 executed (Plo n) t m s = set_low n s.d s
 executed (Phi n) t m s = set_high n s.d s
-executed Lbr t m s = long_begun t m s
-executed Lbq t m s = long_begun t m s
-executed Lbz t m s = long_begun t m s
-executed Lbdf t m s = long_begun t m s
+executed Lbr t m s = long_begun (then_some t m) s
+executed Lbq t m s = long_begun (then_some t m) s
+executed Lbz t m s = long_begun (then_some t m) s
+executed Lbdf t m s = long_begun (then_some t m) s
 executed Nop t m s = s
 executed Lsnq t m s = skipped t s
 executed Lsnz t m s = skipped t s
 executed Lsnf t m s = skipped t s
 executed Lskp t m s = skipped t s
-executed Lbnq t m s = long_begun t m s
-executed Lbnz t m s = long_begun t m s
-executed Lbnf t m s = long_begun t m s
+executed Lbnq t m s = long_begun (then_some t m) s
+executed Lbnz t m s = long_begun (then_some t m) s
+executed Lbnf t m s = long_begun (then_some t m) s
 executed Lsie t m s = skipped t s
 executed Lsq t m s = skipped t s
 executed Lsz t m s = skipped t s
@@ -245,7 +246,7 @@ ended_by (Some (Register n)) t m s = skipped t s
 ended_by (Some (Port port)) t m s = skipped t s
 ended_by (Some Immediate) t m s = skipped t s
 ended_by (Some ShortTarget) t m s = skipped t s
-ended_by (Some LongTarget) t m s = long_ended t m s
+ended_by (Some LongTarget) t m s = long_ended (then_some t m) s
 
 abbrev pub second_executed : Instruction → Bool → ℕ → Registers → Registers
 second_executed i t m s = ended_by (appendix_a i).operand t m s

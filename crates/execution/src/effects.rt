@@ -18,6 +18,7 @@ pub fn execute(instruction: Instruction, registers: &mut Registers, taken: bool,
 {
     let d = registers.d;
     let df = registers.df;
+    let target = taken.then_some(byte);
     match instruction {
         Instruction::Idl | Instruction::Str(_) | Instruction::Sav | Instruction::Nop => {}
         Instruction::Ldn(_) | Instruction::Inp(_) | Instruction::Ldx => registers.d = byte,
@@ -28,8 +29,8 @@ pub fn execute(instruction: Instruction, registers: &mut Registers, taken: bool,
         Instruction::Ret => return_to(registers, byte, true), Instruction::Dis => return_to(registers, byte, false),
         Instruction::Mark => { registers.t = registers.xp(); registers.x = registers.p; registers.down(Register::R2); }
         Instruction::Req => registers.q = false, Instruction::Seq => registers.q = true,
-        Instruction::Glo(n) => registers.d = (registers.reg(n) % 256) as u8,
-        Instruction::Ghi(n) => registers.d = (registers.reg(n) / 256) as u8,
+        Instruction::Glo(n) => [_, registers.d] = registers.reg(n).to_be_bytes(),
+        Instruction::Ghi(n) => [registers.d, _] = registers.reg(n).to_be_bytes(),
         Instruction::Plo(n) => registers.set_low(n, d), Instruction::Phi(n) => registers.set_high(n, d),
         Instruction::Sep(n) => registers.p = n, Instruction::Sex(n) => registers.x = n,
         Instruction::Or => registers.d = or(byte, d), Instruction::And => registers.d = and(byte, d),
@@ -50,11 +51,10 @@ pub fn execute(instruction: Instruction, registers: &mut Registers, taken: bool,
         Instruction::Smi => { set_pair(registers, subtract(d, byte, true)); past_operand(registers); }
         Instruction::Smbi => { set_pair(registers, subtract(d, byte, df)); past_operand(registers); }
         Instruction::Br | Instruction::Bq | Instruction::Bz | Instruction::Bdf | Instruction::B1 | Instruction::B2 | Instruction::B3 |
-        Instruction::B4 => branch(registers, taken, byte), Instruction::Skp => past_operand(registers),
-        Instruction::Bnq | Instruction::Bnz | Instruction::Bnf | Instruction::Bn1 | Instruction::Bn2 | Instruction::Bn3 |
-        Instruction::Bn4 => branch(registers, taken, byte),
+        Instruction::B4 | Instruction::Bnq | Instruction::Bnz | Instruction::Bnf | Instruction::Bn1 | Instruction::Bn2 |
+        Instruction::Bn3 | Instruction::Bn4 => branch(registers, target), Instruction::Skp => past_operand(registers),
         Instruction::Lbr | Instruction::Lbq | Instruction::Lbz | Instruction::Lbdf | Instruction::Lbnq | Instruction::Lbnz |
-        Instruction::Lbnf => begin_long(registers, taken, byte),
+        Instruction::Lbnf => begin_long(registers, target),
         Instruction::Lsnq | Instruction::Lsnz | Instruction::Lsnf | Instruction::Lskp | Instruction::Lsie | Instruction::Lsq |
         Instruction::Lsz | Instruction::Lsdf => skip(registers, taken),
     }
@@ -65,7 +65,7 @@ pub fn second_execute(instruction: Instruction, registers: &mut Registers, taken
     ensures { registers.new ≡ second_executed instruction taken byte registers.old }
 {
     match instruction.operand() {
-        Some(Operand::LongTarget) => end_long(registers, taken, byte),
+        Some(Operand::LongTarget) => end_long(registers, taken.then_some(byte)),
         _ => skip(registers, taken),
     }
 }
@@ -74,9 +74,7 @@ pub fn second_execute(instruction: Instruction, registers: &mut Registers, taken
 fn set_pair(registers: &mut Registers, pair: (u8, bool))
     ensures { registers.new ≡ set_pair pair.0 pair.1 registers.old }
 {
-    let (byte, carry) = pair;
-    registers.d = byte;
-    registers.df = carry;
+    (registers.d, registers.df) = pair;
 }
 
 // R(P)+1.
@@ -96,36 +94,33 @@ fn return_to(registers: &mut Registers, byte: u8, ie: bool)
     registers.ie = ie;
 }
 
-// A short branch: the byte goes to R(P).0, so the page is that of the operand.
-fn branch(registers: &mut Registers, taken: bool, byte: u8)
-    ensures { registers.new ≡ branched taken byte registers.old }
+// A short branch, with the operand of one that is taken: it goes to R(P).0, so the page is that of the operand.
+fn branch(registers: &mut Registers, target: Option<u8>)
+    ensures { registers.new ≡ branched target registers.old }
 {
-    if taken {
-        registers.set_low(registers.p, byte);
-    } else {
-        past_operand(registers);
+    match target {
+        Some(low) => registers.set_low(registers.p, low),
+        None => past_operand(registers),
     }
 }
 
 // The first half of a long branch: R(P).1 stays until the second.
-fn begin_long(registers: &mut Registers, taken: bool, byte: u8)
-    ensures { registers.new ≡ long_begun taken byte registers.old }
+fn begin_long(registers: &mut Registers, target: Option<u8>)
+    ensures { registers.new ≡ long_begun target registers.old }
 {
-    if taken {
-        registers.b = byte;
+    if let Some(high) = target {
+        registers.b = high;
     }
     past_operand(registers);
 }
 
 // The second half of a long branch.
-fn end_long(registers: &mut Registers, taken: bool, byte: u8)
-    ensures { registers.new ≡ long_ended taken byte registers.old }
+fn end_long(registers: &mut Registers, target: Option<u8>)
+    ensures { registers.new ≡ long_ended target registers.old }
 {
-    if taken {
-        let target = u16::from(registers.b) * 256 + u16::from(byte);
-        registers.set_reg(registers.p, target);
-    } else {
-        past_operand(registers);
+    match target {
+        Some(low) => registers.set_reg(registers.p, u16::from_be_bytes([registers.b, low])),
+        None => past_operand(registers),
     }
 }
 

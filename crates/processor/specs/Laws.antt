@@ -1,24 +1,14 @@
 -- What the cycles come to, in the subject's words. Each law is one of a processor before and after a cycle.
 -- Assumes nothing.
-use Rattle.std.specs.Prelude.{◌≡◌, ℕ, ◌+◌, ◌-◌, ◌%◌, min, Bool, true, false, ◌||◌, List, Some, ◌≢◌}
+use Rattle.std.specs.Prelude.{◌≡◌, ℕ, ◌+◌, ◌-◌, ◌%◌, min, Bool, true, false, ◌||◌, List, Some, Option, ◌≢◌}
 use Rattle.isa.specs.Table.{cycles_of, within}
 use Rattle.isa.specs.declared.instructions.Instruction.TheVariants.{Inp, Ret, Dis}
 use Rattle.isa.specs.declared.operands.Port.{Port}
 use Rattle.board.specs.declared.signals.Announcement.{Announcement}
+use Rattle.board.specs.declared.signals.CycleName.{CycleName}
+use Rattle.board.specs.declared.signals.CycleName.TheVariants.{Initialise, Fetch, Execute, SecondExecute, Interrupt}
 use Rattle.board.specs.declared.signals.Show.{Show}
 use Rattle.registers.specs.Registers.{reg}
-use Rattle.processor.specs.declared.state.Coming.{Coming}
-use Rattle.processor.specs.declared.state.Coming.TheVariants.{
-  Initialise,
-  Fetch,
-  Execute,
-  SecondExecute,
-  Idle,
-  DmaIn,
-  DmaOut,
-  Interrupt,
-  Stopped,
-}
 use Rattle.processor.specs.declared.state.Cycle.TheVariants as cycle
 use Rattle.processor.specs.declared.state.Mode.{Mode}
 use Rattle.processor.specs.declared.state.Mode.TheVariants.{Run}
@@ -27,31 +17,20 @@ use Rattle.processor.specs.Cycles.{announced, due}
 
 -- how many cycles are left of the instruction that is under way: before its execute all of the opcode table but the fetch,
 -- before its second execute one; 68 has none left
-abbrev pub left_at : Coming → ℕ → ℕ
-left_at Initialise op = 0
-left_at Fetch op = 0
-left_at Execute op = cycles_of op - 1
-left_at SecondExecute op = min 1 (cycles_of op - 1)
-left_at Idle op = 0
-left_at DmaIn op = 0
-left_at DmaOut op = 0
-left_at Interrupt op = 0
-left_at Stopped op = 0
+abbrev pub left_at : Option CycleName → ℕ → ℕ
+left_at (Some Execute) op = cycles_of op - 1
+left_at (Some SecondExecute) op = min 1 (cycles_of op - 1)
+left_at _ op = 0
 
 abbrev pub left : Processor → ℕ
 left s = left_at s.coming s.registers.opcode
 
 -- how many are left after a cycle: a fetch is the first of its instruction's, and each execute is one of them
-abbrev pub left_after : Coming → ℕ → ℕ → ℕ
-left_after Initialise before op = 0
-left_after Fetch before op = cycles_of op - 1
-left_after Execute before op = before - 1
-left_after SecondExecute before op = before - 1
-left_after Idle before op = 0
-left_after DmaIn before op = 0
-left_after DmaOut before op = 0
-left_after Interrupt before op = 0
-left_after Stopped before op = 0
+abbrev pub left_after : Option CycleName → ℕ → ℕ → ℕ
+left_after (Some Fetch) before op = cycles_of op - 1
+left_after (Some Execute) before op = before - 1
+left_after (Some SecondExecute) before op = before - 1
+left_after _ before op = 0
 
 -- An instruction has just the cycles of the opcode table, taken or not, and they follow each other: while some are left, the
 -- coming cycle is one of them, so no DMA or interrupt cycle parts a fetch from its executes.
@@ -61,7 +40,7 @@ Paced before after = left after ≡ left_after before.coming (left before) after
 -- only a fetch changes I and N, so the executes after it are those of the opcode that it fetched
 abbrev pub KeepsOpcode : Processor → Processor → Type 0
 KeepsOpcode before after =
-    (before.coming ≢ Fetch) → after.registers.opcode ≡ before.registers.opcode
+    (before.coming ≢ Some Fetch) → after.registers.opcode ≡ before.registers.opcode
 
 -- the opcodes of arithmetic and shifts
 abbrev pub alters_df : ℕ → Bool
@@ -70,7 +49,7 @@ alters_df op = within 0x74 0x77 op || within 0x7C 0x7F op || within 0xF4 0xF7 op
 -- no other cycle alters DF
 abbrev pub KeepsDf : Processor → Processor → Type 0
 KeepsDf before after =
-    (before.coming ≡ Execute → alters_df before.registers.opcode ≡ false)
+    (before.coming ≡ Some Execute → alters_df before.registers.opcode ≡ false)
     → after.registers.df ≡ before.registers.df
 
 -- the register that X named before the cycle is one more after it
@@ -94,4 +73,4 @@ LoadsBus shown position before after =
 -- an interrupt comes only in run, with IE 1 after the cycle, and never straight after the initialising one
 abbrev pub InterruptsIn : Mode → Processor → Processor → Type 0
 InterruptsIn mode before after =
-    after.coming ≡ Interrupt → (mode ≡ Run) × (after.registers.ie ≡ true) × (before.coming ≢ Initialise)
+    after.coming ≡ Some Interrupt → (mode ≡ Run) × (after.registers.ie ≡ true) × (before.coming ≢ Some Initialise)

@@ -32,8 +32,8 @@ module _ (shown : List ℕ → Announcement → Show) where
   abbrev pub taken_in : Cycle → Machine → Bool
   taken_in c w = takes c w.processor.registers (show_in c w)
 
-  -- the access of a cycle, and the byte that it transfers
-  abbrev pub access_in : Cycle → Machine → Access
+  -- the access of a cycle, if any, and the byte that it transfers
+  abbrev pub access_in : Cycle → Machine → Option Access
   access_in c w = accessed c w.processor.registers (show_in c w).bus (taken_in c w)
 
   abbrev pub transfer_in : Cycle → Machine → Transfer

@@ -1,9 +1,9 @@
 // One machine cycle.
 ghost use Rattle.std.specs.Prelude.{◌≡◌};
 ghost use Rattle.processor.specs.Laws.{InterruptsIn, KeepsDf, KeepsOpcode, LoadsBus, Paced, StepsOldX};
-ghost use Rattle.processor.specs.Machine.{machine, record_of, stepped, told_in, turned};
+ghost use Rattle.processor.specs.Machine.{machine, stepped, told_in};
 
-use crate::state::{Cycle, Mode, Processor};
+use crate::state::{Mode, Processor};
 use crate::transfer::touch;
 use board::meaning::Board;
 use board::signals::Record;
@@ -11,7 +11,9 @@ use memory::meaning::Memory;
 
 impl Processor {
     // Runs the cycle that is due, and answers its record; where none is due, as the processor is stopped, nothing changes and
-    // there is none.
+    // there is none. In order: announce and show, see what is taken, choose the access, make it, apply the effect, see what
+    // comes next, tell the record.
+    #[tactic(auto, using(crate::proofs::Laws::laws))]
     pub fn cycle<M: Memory, B: Board>(
         &mut self,
         mode: Mode,
@@ -28,38 +30,7 @@ impl Processor {
         ensures input { LoadsBus B.shown (B.position board.old) self.old self.new }
         ensures interrupts { InterruptsIn mode self.old self.new }
     {
-        self.registers.sized();
-        self.step(mode, memory, board)
-    }
-
-    // The same without the laws, which are shown above once for all cycles.
-    fn step<M: Memory, B: Board>(
-        &mut self,
-        mode: Mode,
-        memory: &mut M,
-        board: &mut B,
-    ) -> Option<Record>
-        ensures after { machine self.new (M.store memory.new) (B.position board.new) ≡ stepped B.shown B.moved mode (machine self.old (M.store memory.old) (B.position board.old)) }
-        ensures told { result ≡ told_in B.shown (machine self.old (M.store memory.old) (B.position board.old)) }
-        ensures built { M.form memory.new ≡ M.form memory.old }
-    {
         let cycle = self.due()?;
-        Some(self.turn(cycle, mode, memory, board))
-    }
-
-    // Announce and show, see what is taken, choose the access, make it, apply the effect, see what comes next, tell the
-    // record.
-    fn turn<M: Memory, B: Board>(
-        &mut self,
-        cycle: Cycle,
-        mode: Mode,
-        memory: &mut M,
-        board: &mut B,
-    ) -> Record
-        ensures after { machine self.new (M.store memory.new) (B.position board.new) ≡ turned B.shown B.moved mode cycle (machine self.old (M.store memory.old) (B.position board.old)) }
-        ensures told { result ≡ record_of B.shown cycle (machine self.old (M.store memory.old) (B.position board.old)) }
-        ensures built { M.form memory.new ≡ M.form memory.old }
-    {
         let announcement = cycle.announce(&self.registers);
         let show = board.show(announcement);
         let taken = cycle.takes(&self.registers, show);
@@ -75,6 +46,6 @@ impl Processor {
             q: self.registers.q,
         };
         board.tell(record);
-        record
+        Some(record)
     }
 }

@@ -1,28 +1,17 @@
 // What a processor holds, and which cycle is due.
 ghost use Rattle.std.specs.Prelude.{◌≡◌};
 ghost use Rattle.processor.specs.Cycles.{due, fresh};
+ghost use Rattle.registers.specs.Registers.{Sized};
 
+use board::signals::CycleName;
 use isa::instructions::{Instruction, decode};
 use registers::registers::Registers;
 
-// The coming cycle, or that the processor is stopped.
-#[derive(Clone, Copy)]
-pub enum Coming {
-    Initialise,
-    Fetch,
-    Execute,
-    SecondExecute,
-    Idle,
-    DmaIn,
-    DmaOut,
-    Interrupt,
-    Stopped,
-}
-
-#[derive(Clone, Copy)]
+#[derive(Clone, Copy, Debug, PartialEq, Eq)]
 pub struct Processor {
     pub registers: Registers,
-    pub coming: Coming,
+    // the coming cycle; with none the processor is stopped
+    pub coming: Option<CycleName>,
 }
 
 // A cycle that is due; an execute has its instruction with it.
@@ -39,7 +28,7 @@ pub enum Cycle {
 }
 
 // The modes in which cycles are run.
-#[derive(Clone, Copy)]
+#[derive(Clone, Copy, Debug, PartialEq, Eq)]
 pub enum Mode {
     Load,
     Run,
@@ -52,25 +41,26 @@ impl Processor {
     {
         Processor {
             registers: Registers::new(),
-            coming: Coming::Initialise,
+            coming: Some(CycleName::Initialise),
         }
     }
 
     // The cycle that is due, or none where the processor is stopped; an execute of 68, to which no cycle leads, is none too.
-    // The opcode is decoded here and nowhere else in a cycle.
-    pub fn due(&self) -> Option<Cycle>
-        ensures { result ≡ due self.now }
+    // The opcode is decoded here and nowhere else in a cycle. `sized` is what the types of the registers say: a proof knows it of
+    // a processor that is handed over by value.
+    pub fn due(self) -> Option<Cycle>
+        ensures value { result ≡ due self }
+        ensures sized { Sized self.registers }
     {
-        Some(match self.coming {
-            Coming::Initialise => Cycle::Initialise,
-            Coming::Fetch => Cycle::Fetch,
-            Coming::Execute => Cycle::Execute(decode(self.registers.opcode)?),
-            Coming::SecondExecute => Cycle::SecondExecute(decode(self.registers.opcode)?),
-            Coming::Idle => Cycle::Idle,
-            Coming::DmaIn => Cycle::DmaIn,
-            Coming::DmaOut => Cycle::DmaOut,
-            Coming::Interrupt => Cycle::Interrupt,
-            Coming::Stopped => return None,
+        Some(match self.coming? {
+            CycleName::Initialise => Cycle::Initialise,
+            CycleName::Fetch => Cycle::Fetch,
+            CycleName::Execute => Cycle::Execute(decode(self.registers.opcode)?),
+            CycleName::SecondExecute => Cycle::SecondExecute(decode(self.registers.opcode)?),
+            CycleName::Idle => Cycle::Idle,
+            CycleName::DmaIn => Cycle::DmaIn,
+            CycleName::DmaOut => Cycle::DmaOut,
+            CycleName::Interrupt => Cycle::Interrupt,
         })
     }
 }

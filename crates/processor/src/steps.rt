@@ -3,7 +3,7 @@
 ghost use Rattle.std.specs.Prelude.{◌≡◌};
 ghost use Rattle.processor.specs.Cycles.{accessed, affected, announced, comes_next, lines_of, name_of, served, takes};
 
-use crate::state::{Coming, Cycle, Mode};
+use crate::state::{Cycle, Mode};
 use board::signals::{Announcement, CycleName, Show};
 use execution::access::{Access, execute_access, second_access};
 use execution::conditions::taken;
@@ -54,25 +54,22 @@ impl Cycle {
         ensures { result ≡ takes self registers.now show }
     {
         match self {
-            Cycle::Execute(instruction) => taken(instruction, registers, show),
-            Cycle::SecondExecute(instruction) => taken(instruction, registers, show),
+            Cycle::Execute(i) | Cycle::SecondExecute(i) => taken(i, registers, show),
             _ => false,
         }
     }
 
-    // The byte that the cycle uses, by the registers before it, the bus byte, and whether its instruction is taken.
-    pub fn access(self, registers: &Registers, bus: u8, taken: bool) -> Access
+    // The byte that the cycle uses, if any, by the registers before it, the bus byte, and whether its instruction is taken.
+    pub fn access(self, registers: &Registers, bus: u8, taken: bool) -> Option<Access>
         ensures { result ≡ accessed self registers.now bus taken }
     {
         match self {
-            Cycle::Initialise => Access::Nothing,
-            Cycle::Fetch => Access::Reads(registers.r_p()),
+            Cycle::Initialise | Cycle::Interrupt => None,
+            Cycle::Fetch => Some(Access::Reads(registers.r_p())),
             Cycle::Execute(instruction) => execute_access(instruction, registers, bus, taken),
             Cycle::SecondExecute(instruction) => second_access(instruction, registers, taken),
-            Cycle::Idle => Access::Reads(registers.reg(Register::R0)),
-            Cycle::DmaIn => Access::Writes(registers.reg(Register::R0), bus),
-            Cycle::DmaOut => Access::Reads(registers.reg(Register::R0)),
-            Cycle::Interrupt => Access::Nothing,
+            Cycle::Idle | Cycle::DmaOut => Some(Access::Reads(registers.reg(Register::R0))),
+            Cycle::DmaIn => Some(Access::Writes(registers.reg(Register::R0), bus)),
         }
     }
 
@@ -98,8 +95,7 @@ impl Cycle {
                 byte,
             ),
             Cycle::Idle => {}
-            Cycle::DmaIn => registers.up(Register::R0),
-            Cycle::DmaOut => registers.up(Register::R0),
+            Cycle::DmaIn | Cycle::DmaOut => registers.up(Register::R0),
             Cycle::Interrupt => {
                 registers.t = registers.xp();
                 registers.x = Register::R2;
@@ -110,39 +106,39 @@ impl Cycle {
     }
 
     // What comes after the cycle, by the registers as it left them and by the lines shown in it.
-    pub fn next(self, mode: Mode, registers: &Registers, show: Show) -> Coming
+    pub fn next(self, mode: Mode, registers: &Registers, show: Show) -> Option<CycleName>
         ensures { result ≡ comes_next self mode registers.now show }
     {
-        match self {
-            Cycle::Fetch if registers.opcode == 0x68 => Coming::Stopped,
-            Cycle::Fetch => Coming::Execute,
-            Cycle::Execute(_) if u8::from(registers.i()) == 0xc => Coming::SecondExecute,
+        Some(match self {
+            Cycle::Fetch if registers.opcode == 0x68 => return None,
+            Cycle::Fetch => CycleName::Execute,
+            Cycle::Execute(_) if u8::from(registers.i()) == 0xc => CycleName::SecondExecute,
             Cycle::Execute(_) if registers.opcode == 0x00 => serve(
                 mode,
                 show,
                 registers.ie,
-                Coming::Idle,
+                CycleName::Idle,
             ),
-            Cycle::Idle => serve(mode, show, registers.ie, Coming::Idle),
-            Cycle::Initialise => serve(mode, show, false, Coming::Fetch),
-            _ => serve(mode, show, registers.ie, Coming::Fetch),
-        }
+            Cycle::Idle => serve(mode, show, registers.ie, CycleName::Idle),
+            Cycle::Initialise => serve(mode, show, false, CycleName::Fetch),
+            _ => serve(mode, show, registers.ie, CycleName::Fetch),
+        })
     }
 }
 
 // The order of the request lines: DMA-in, DMA-out, and in run interrupt, where it may come. With none, load idles.
-fn serve(mode: Mode, show: Show, interruptible: bool, rest: Coming) -> Coming
+fn serve(mode: Mode, show: Show, interruptible: bool, rest: CycleName) -> CycleName
     ensures { result ≡ served mode show interruptible rest }
 {
     if show.dma_in {
-        return Coming::DmaIn;
+        return CycleName::DmaIn;
     }
     if show.dma_out {
-        return Coming::DmaOut;
+        return CycleName::DmaOut;
     }
     match mode {
-        Mode::Load => Coming::Idle,
-        Mode::Run if show.interrupt && interruptible => Coming::Interrupt,
+        Mode::Load => CycleName::Idle,
+        Mode::Run if show.interrupt && interruptible => CycleName::Interrupt,
         Mode::Run => rest,
     }
 }

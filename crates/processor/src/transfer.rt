@@ -7,26 +7,26 @@ use execution::access::Access;
 use memory::meaning::Memory;
 
 // Which way the byte went, where, and the byte. A cycle that uses none has the address 0000 and the byte FF.
-#[derive(Clone, Copy)]
+#[derive(Clone, Copy, Debug, PartialEq, Eq)]
 pub struct Transfer {
     pub direction: Direction,
     pub address: u16,
     pub byte: u8,
 }
 
-// Makes an access at a memory, and says what was transferred.
-pub fn touch<M: Memory>(memory: &mut M, access: Access) -> Transfer
+// Makes an access at a memory, if there is one, and says what was transferred.
+pub fn touch<M: Memory>(memory: &mut M, access: Option<Access>) -> Transfer
     ensures transfer { result ≡ transfer_of access (M.store memory.old) }
     ensures after { M.store memory.new ≡ store_after access (M.store memory.old) }
     ensures built { M.form memory.new ≡ M.form memory.old }
 {
     match access {
-        Access::Reads(address) => Transfer {
+        Some(Access::Reads(address)) => Transfer {
             direction: Direction::Read,
             address,
             byte: memory.read(address),
         },
-        Access::Writes(address, byte) => {
+        Some(Access::Writes(address, byte)) => {
             memory.write(address, byte);
             Transfer {
                 direction: Direction::Write,
@@ -34,7 +34,7 @@ pub fn touch<M: Memory>(memory: &mut M, access: Access) -> Transfer
                 byte,
             }
         }
-        Access::Nothing => Transfer {
+        None => Transfer {
             direction: Direction::Neither,
             address: 0x0000,
             byte: 0xff,

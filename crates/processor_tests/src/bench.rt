@@ -1,13 +1,11 @@
 // A processor on a bench: in run, about to fetch, with RAM and a list of shows.
 use board::script::Script;
-use board::signals::{CycleName, Direction, Record, Show};
+use board::signals::{Announcement, CycleName, Direction, Record, Show};
 use isa::operands::Register;
-use memory::bytes::Ram;
 use memory::meaning::Memory;
-use processor::state::{Coming, Mode, Processor};
+use memory::bytes::Ram;
+use processor::state::{Mode, Processor};
 use std::alloc::{AllocError, Global};
-use std::process::Abort;
-use std::test::Fail;
 
 #[derive(Drop)]
 pub(crate) struct Bench {
@@ -21,7 +19,7 @@ impl Bench {
     // R(0) is the program counter, at an address; RAM of so many zeroes.
     pub(crate) fn new(heap: Global, address: u16, size: usize) -> Result<Bench, AllocError> {
         let mut cpu = Processor::new();
-        cpu.coming = Coming::Fetch;
+        cpu.coming = Some(CycleName::Fetch);
         cpu.registers.set_reg(Register::R0, address);
         Ok(Bench {
             cpu,
@@ -33,10 +31,8 @@ impl Bench {
 
     // Bytes from an address up.
     pub(crate) fn put(&mut self, address: u16, bytes: &[u8]) {
-        let mut at = address;
-        for byte in bytes {
-            self.ram.write(at, *byte);
-            at = at.wrapping_add(1);
+        for (offset, byte) in (0..=u16::MAX).zip(bytes) {
+            self.ram.write(address.wrapping_add(offset), *byte);
         }
     }
 
@@ -94,35 +90,48 @@ pub(crate) fn bus(byte: u8) -> Show {
     }
 }
 
-// A cycle ran, with this name, direction, address and byte.
-pub(crate) fn told(
-    rt: &impl Abort,
-    record: Option<Record>,
-    name: CycleName,
-    direction: Direction,
-    address: u16,
-    byte: u8,
-) -> Result<(), Fail> {
-    let Some(r) = record else {
-        return Err(Fail::new("the processor is stopped"));
-    };
-    assert_eq!(rt; r.announcement.name as u8, name as u8);
-    assert_eq!(rt; r.direction as u8, direction as u8);
-    assert_eq!(rt; r.address, address);
-    assert_eq!(rt; r.byte, byte);
-    Ok(())
+// What is told of a cycle that uses no byte, with Q 0 and nothing on the N lines.
+pub(crate) fn no_byte(name: CycleName) -> Record {
+    Record {
+        announcement: Announcement {
+            name,
+            lines: 0,
+            q: false,
+        },
+        direction: Direction::Neither,
+        address: 0x0000,
+        byte: 0xff,
+        q: false,
+    }
 }
 
-// A cycle ran with this number on the N lines.
-pub(crate) fn lines(rt: &impl Abort, record: Option<Record>, number: u8) -> Result<(), Fail> {
-    let Some(r) = record else {
-        return Err(Fail::new("the processor is stopped"));
-    };
-    assert_eq!(rt; r.announcement.lines, number);
-    Ok(())
+// The same of a cycle that reads a byte.
+pub(crate) fn read(name: CycleName, address: u16, byte: u8) -> Record {
+    Record {
+        direction: Direction::Read,
+        address,
+        byte,
+        ..no_byte(name)
+    }
 }
 
-// What comes next.
-pub(crate) fn comes(rt: &impl Abort, bench: &Bench, coming: Coming) {
-    assert_eq!(rt; bench.cpu.coming as u8, coming as u8);
+// The same of a cycle that writes one.
+pub(crate) fn written(name: CycleName, address: u16, byte: u8) -> Record {
+    Record {
+        direction: Direction::Write,
+        address,
+        byte,
+        ..no_byte(name)
+    }
+}
+
+// The same with a number on the N lines.
+pub(crate) fn on_lines(number: u8, record: Record) -> Record {
+    Record {
+        announcement: Announcement {
+            lines: number,
+            ..record.announcement
+        },
+        ..record
+    }
 }

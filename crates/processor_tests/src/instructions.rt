@@ -1,9 +1,8 @@
 // What instructions do, cycle by cycle.
-use crate::bench::{Bench, bus, comes, lines, told};
+use crate::bench::{Bench, bus, no_byte, on_lines, read, written};
 use board::script::Script;
-use board::signals::{CycleName, Direction};
+use board::signals::CycleName;
 use isa::operands::Register;
-use processor::state::Coming;
 use std::test::Fail;
 
 #[test]
@@ -65,17 +64,12 @@ fn out_reads_with_its_number_on_the_lines(rt: HostRuntime) -> Result<(), Fail> {
     bench.cpu.registers.x = Register::R2;
     bench.cpu.registers.set_reg(Register::R2, 0x0010);
     bench.run(1);
-    let record = bench.turn();
-    told(
-        &rt,
-        record,
-        CycleName::Execute,
-        Direction::Read,
-        0x0010,
-        0x5a,
-    )?;
+    assert_eq!(rt;
+        bench.turn(),
+        Some(on_lines(2, read(CycleName::Execute, 0x0010, 0x5a)))
+    );
     assert_eq!(rt; bench.r(Register::R2), 0x0011);
-    lines(&rt, record, 2)
+    Ok(())
 }
 
 #[test]
@@ -91,22 +85,8 @@ fn a_branch_at_a_page_end_goes_by_its_operand(rt: HostRuntime) -> Result<(), Fai
 fn a_branch_that_is_not_taken_reads_nothing(rt: HostRuntime) -> Result<(), Fail> {
     let mut bench = Bench::new(rt.alloc(), 0x0000, 2)?;
     bench.put(0x0000, &[0x33, 0x45]);
-    told(
-        &rt,
-        bench.turn(),
-        CycleName::Fetch,
-        Direction::Read,
-        0x0000,
-        0x33,
-    )?;
-    told(
-        &rt,
-        bench.turn(),
-        CycleName::Execute,
-        Direction::Neither,
-        0x0000,
-        0xff,
-    )?;
+    assert_eq!(rt; bench.turn(), Some(read(CycleName::Fetch, 0x0000, 0x33)));
+    assert_eq!(rt; bench.turn(), Some(no_byte(CycleName::Execute)));
     assert_eq!(rt; bench.r(Register::R0), 0x0002);
     Ok(())
 }
@@ -119,16 +99,12 @@ fn a_long_branch_loads_both_bytes_in_its_second_execute(rt: HostRuntime) -> Resu
     bench.run(2);
     assert_eq!(rt; bench.r(Register::R0), 0x0102);
     assert_eq!(rt; bench.cpu.registers.b, 0x2f);
-    told(
-        &rt,
+    assert_eq!(rt;
         bench.turn(),
-        CycleName::SecondExecute,
-        Direction::Read,
-        0x0102,
-        0x9a,
-    )?;
+        Some(read(CycleName::SecondExecute, 0x0102, 0x9a))
+    );
     assert_eq!(rt; bench.r(Register::R0), 0x2f9a);
-    comes(&rt, &bench, Coming::Fetch);
+    assert_eq!(rt; bench.cpu.coming, Some(CycleName::Fetch));
     Ok(())
 }
 
@@ -139,15 +115,15 @@ fn class_c_has_three_cycles_taken_or_not(rt: HostRuntime) -> Result<(), Fail> {
     bench.put(0x0100, &[0xc3, 0x2f, 0x9a, 0xc4, 0xcf]);
     bench.run(3);
     assert_eq!(rt; bench.r(Register::R0), 0x0103);
-    comes(&rt, &bench, Coming::Fetch);
+    assert_eq!(rt; bench.cpu.coming, Some(CycleName::Fetch));
     bench.run(3);
     assert_eq!(rt; bench.r(Register::R0), 0x0104);
-    comes(&rt, &bench, Coming::Fetch);
+    assert_eq!(rt; bench.cpu.coming, Some(CycleName::Fetch));
     bench.run(2);
-    comes(&rt, &bench, Coming::SecondExecute);
+    assert_eq!(rt; bench.cpu.coming, Some(CycleName::SecondExecute));
     bench.run(1);
     assert_eq!(rt; bench.r(Register::R0), 0x0105);
-    comes(&rt, &bench, Coming::Fetch);
+    assert_eq!(rt; bench.cpu.coming, Some(CycleName::Fetch));
     Ok(())
 }
 
@@ -177,18 +153,13 @@ fn inp_loads_d_though_nothing_is_kept(rt: HostRuntime) -> Result<(), Fail> {
     bench.cpu.registers.x = Register::R3;
     bench.cpu.registers.set_reg(Register::R3, 0x9000);
     bench.run(1);
-    let record = bench.turn();
-    told(
-        &rt,
-        record,
-        CycleName::Execute,
-        Direction::Write,
-        0x9000,
-        0x5a,
-    )?;
+    assert_eq!(rt;
+        bench.turn(),
+        Some(on_lines(5, written(CycleName::Execute, 0x9000, 0x5a)))
+    );
     assert_eq!(rt; bench.cpu.registers.d, 0x5a);
     assert_eq!(rt; bench.m(0x9000), 0xff);
-    lines(&rt, record, 5)
+    Ok(())
 }
 
 #[test]
@@ -198,14 +169,10 @@ fn mark_writes_at_r2_and_not_at_r_x(rt: HostRuntime) -> Result<(), Fail> {
     bench.cpu.registers.x = Register::RA;
     bench.cpu.registers.set_reg(Register::R2, 0x0010);
     bench.run(1);
-    told(
-        &rt,
+    assert_eq!(rt;
         bench.turn(),
-        CycleName::Execute,
-        Direction::Write,
-        0x0010,
-        0xa0,
-    )?;
+        Some(written(CycleName::Execute, 0x0010, 0xa0))
+    );
     assert_eq!(rt; bench.cpu.registers.t, 0xa0);
     assert_eq!(rt; bench.cpu.registers.x, Register::R0);
     assert_eq!(rt; bench.r(Register::R2), 0x000f);
@@ -231,16 +198,9 @@ fn registers_wrap(rt: HostRuntime) -> Result<(), Fail> {
 fn opcode_68_stops_the_processor(rt: HostRuntime) -> Result<(), Fail> {
     let mut bench = Bench::new(rt.alloc(), 0x0000, 1)?;
     bench.put(0x0000, &[0x68]);
-    told(
-        &rt,
-        bench.turn(),
-        CycleName::Fetch,
-        Direction::Read,
-        0x0000,
-        0x68,
-    )?;
-    comes(&rt, &bench, Coming::Stopped);
-    assert!(rt; bench.turn().is_none());
+    assert_eq!(rt; bench.turn(), Some(read(CycleName::Fetch, 0x0000, 0x68)));
+    assert_eq!(rt; bench.cpu.coming, None);
+    assert_eq!(rt; bench.turn(), None);
     assert_eq!(rt; u8::from(bench.cpu.registers.i()), 0x6);
     assert_eq!(rt; u8::from(bench.cpu.registers.n()), 0x8);
     assert_eq!(rt; bench.r(Register::R0), 0x0001);

@@ -1,9 +1,9 @@
 // Request lines, load and idle.
-use crate::bench::{Bench, comes, dma_in, dma_out, interrupt, told};
+use crate::bench::{Bench, dma_in, dma_out, interrupt, no_byte, read};
 use board::script::Script;
-use board::signals::{CycleName, Direction, Show};
+use board::signals::{CycleName, Show};
 use isa::operands::Register;
-use processor::state::{Coming, Mode, Processor};
+use processor::state::{Mode, Processor};
 use std::test::Fail;
 
 #[test]
@@ -22,12 +22,12 @@ fn load_takes_bytes_by_dma_in(rt: HostRuntime) -> Result<(), Fail> {
     assert_eq!(rt; bench.m(0x0000), 0x7a);
     assert_eq!(rt; bench.m(0x0001), 0x00);
     assert_eq!(rt; bench.r(Register::R0), 0x0002);
-    comes(&rt, &bench, Coming::DmaIn);
+    assert_eq!(rt; bench.cpu.coming, Some(CycleName::DmaIn));
     bench.run(1);
-    comes(&rt, &bench, Coming::Idle);
+    assert_eq!(rt; bench.cpu.coming, Some(CycleName::Idle));
     // an interrupt line in load leads nowhere
     bench.run(1);
-    comes(&rt, &bench, Coming::Idle);
+    assert_eq!(rt; bench.cpu.coming, Some(CycleName::Idle));
     Ok(())
 }
 
@@ -39,19 +39,12 @@ fn a_dma_cycle_waits_for_the_execute(rt: HostRuntime) -> Result<(), Fail> {
     bench.put(0x0000, &[0xc4]);
     bench.board = Script::new(vec![in heap; dma_out(), dma_out(), dma_out(), Show::silent()]?);
     bench.run(1);
-    comes(&rt, &bench, Coming::Execute);
+    assert_eq!(rt; bench.cpu.coming, Some(CycleName::Execute));
     bench.run(1);
-    comes(&rt, &bench, Coming::SecondExecute);
+    assert_eq!(rt; bench.cpu.coming, Some(CycleName::SecondExecute));
     bench.run(1);
-    told(
-        &rt,
-        bench.turn(),
-        CycleName::DmaOut,
-        Direction::Read,
-        0x0001,
-        0xff,
-    )?;
-    comes(&rt, &bench, Coming::Fetch);
+    assert_eq!(rt; bench.turn(), Some(read(CycleName::DmaOut, 0x0001, 0xff)));
+    assert_eq!(rt; bench.cpu.coming, Some(CycleName::Fetch));
     Ok(())
 }
 
@@ -71,19 +64,12 @@ fn dma_in_goes_before_dma_out_and_both_before_interrupt(rt: HostRuntime) -> Resu
     bench.put(0x0000, &[0x1f]);
     bench.board = Script::new(vec![in heap; both, both, lower, interrupt(), Show::silent()]?);
     bench.run(2);
-    comes(&rt, &bench, Coming::DmaIn);
+    assert_eq!(rt; bench.cpu.coming, Some(CycleName::DmaIn));
     bench.run(1);
-    comes(&rt, &bench, Coming::DmaOut);
+    assert_eq!(rt; bench.cpu.coming, Some(CycleName::DmaOut));
     bench.run(1);
-    comes(&rt, &bench, Coming::Interrupt);
-    told(
-        &rt,
-        bench.turn(),
-        CycleName::Interrupt,
-        Direction::Neither,
-        0x0000,
-        0xff,
-    )?;
+    assert_eq!(rt; bench.cpu.coming, Some(CycleName::Interrupt));
+    assert_eq!(rt; bench.turn(), Some(no_byte(CycleName::Interrupt)));
     assert_eq!(rt; bench.cpu.registers.t, 0x00);
     assert_eq!(rt; bench.cpu.registers.x, Register::R2);
     assert_eq!(rt; bench.cpu.registers.p, Register::R1);
@@ -99,10 +85,10 @@ fn no_interrupt_after_the_initialising_cycle_nor_with_ie_0(rt: HostRuntime) -> R
     bench.put(0x0000, &[0x1f]);
     bench.board = Script::new(vec![in heap; interrupt(), interrupt(), interrupt()]?);
     bench.run(1);
-    comes(&rt, &bench, Coming::Fetch);
+    assert_eq!(rt; bench.cpu.coming, Some(CycleName::Fetch));
     bench.cpu.registers.ie = false;
     bench.run(2);
-    comes(&rt, &bench, Coming::Fetch);
+    assert_eq!(rt; bench.cpu.coming, Some(CycleName::Fetch));
     Ok(())
 }
 
@@ -118,20 +104,13 @@ fn idle_lasts_until_a_request_and_a_dma_ends_it(rt: HostRuntime) -> Result<(), F
         dma_in(0x99),
     ]?);
     bench.run(2);
-    comes(&rt, &bench, Coming::Idle);
-    told(
-        &rt,
-        bench.turn(),
-        CycleName::Idle,
-        Direction::Read,
-        0x0001,
-        0x7b,
-    )?;
-    comes(&rt, &bench, Coming::Idle);
+    assert_eq!(rt; bench.cpu.coming, Some(CycleName::Idle));
+    assert_eq!(rt; bench.turn(), Some(read(CycleName::Idle, 0x0001, 0x7b)));
+    assert_eq!(rt; bench.cpu.coming, Some(CycleName::Idle));
     bench.run(1);
-    comes(&rt, &bench, Coming::DmaIn);
+    assert_eq!(rt; bench.cpu.coming, Some(CycleName::DmaIn));
     bench.run(1);
-    comes(&rt, &bench, Coming::Fetch);
+    assert_eq!(rt; bench.cpu.coming, Some(CycleName::Fetch));
     Ok(())
 }
 
@@ -144,7 +123,7 @@ fn ret_lets_an_interrupt_in_at_once(rt: HostRuntime) -> Result<(), Fail> {
     bench.cpu.registers.ie = false;
     bench.board = Script::new(vec![in heap; interrupt(), interrupt()]?);
     bench.run(2);
-    comes(&rt, &bench, Coming::Interrupt);
+    assert_eq!(rt; bench.cpu.coming, Some(CycleName::Interrupt));
     assert_eq!(rt; bench.cpu.registers.p, Register::R3);
     Ok(())
 }

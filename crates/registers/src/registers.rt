@@ -1,12 +1,12 @@
 // The processor's registers.
-ghost use Rattle.std.specs.Prelude.{◌≡◌};
-ghost use Rattle.registers.specs.Registers.{Sized, class_i, digit_n, fresh};
+ghost use Rattle.std.specs.Prelude.{◌≡◌, ◌<◌};
+ghost use Rattle.registers.specs.Registers.{class_i, digit_n, fresh};
 
 use isa::digit::Digit;
 use isa::operands::Register;
 
 // X and P are one of sixteen by their type, I and N by being the digits of a byte.
-#[derive(Clone, Copy)]
+#[derive(Clone, Copy, Debug, PartialEq, Eq)]
 pub struct Registers {
     // R(0) to R(F)
     pub r: [u16; 16],
@@ -55,13 +55,5 @@ impl Registers {
         ensures { result ≡ digit_n self.now }
     {
         Digit::low(self.opcode)
-    }
-
-    // There are sixteen R registers, and D, T, B and the opcode are bytes. A proof learns that of registers that it looks
-    // into; at run time nothing is left of it.
-    pub fn sized(&self)
-        ensures { Sized self.now }
-    {
-        let _first = self.r[0];
     }
 }

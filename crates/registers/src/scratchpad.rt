@@ -68,8 +68,8 @@ impl Registers {
         ensures low { reg w self.new % 256 ≡ byte }
         ensures high { reg w self.new / 256 ≡ reg w self.old / 256 }
     {
-        let value = self.reg(w) / 256 * 256 + u16::from(byte);
-        self.set_reg(w, value);
+        let [high, _] = self.reg(w).to_be_bytes();
+        self.set_reg(w, u16::from_be_bytes([high, byte]));
     }
 
     // A byte → R(W).1; R(W).0 stays.
@@ -78,7 +78,7 @@ impl Registers {
         ensures low { reg w self.new % 256 ≡ reg w self.old % 256 }
         ensures high { reg w self.new / 256 ≡ byte }
     {
-        let value = u16::from(byte) * 256 + self.reg(w) % 256;
-        self.set_reg(w, value);
+        let [_, low] = self.reg(w).to_be_bytes();
+        self.set_reg(w, u16::from_be_bytes([byte, low]));
     }
 }

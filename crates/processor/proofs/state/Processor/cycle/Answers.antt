@@ -1,26 +1,10 @@
--- The laws of a cycle, at what `step` leaves.
-use Rattle.processor.specs.Machine.{machine}
-use Rattle.processor.proofs.Laws.{lawful}
+-- The law of DF, at what `affect` leaves.
+use Rattle.std.proofs.Common.{ap, ◌∙◌, sym}
+use Rattle.registers.specs.declared.registers.Registers.{Registers}
+use Rattle.processor.proofs.Laws.{df_law}
 use Rattle.processor.proofs.state.Processor.cycle.Goals as goal
 
-pub returns : goal.returns
-returns g c =
-    let m = g.M.Memory in
-    let b = g.B.Board in
-    let laws =
-    lawful b.shown b.moved c.args.mode
-    (machine c.args.self.now (m.store c.args.memory.now) (b.position c.args.board.now))
-    (machine c.step.new.self (m.store c.step.new.memory) (b.position c.step.new.board))
-    c.step.ensures.after c.sized.ensures
-    in
-    record {
-      after = c.step.ensures.after;
-      told = c.step.ensures.told;
-      built = c.step.ensures.built;
-      paced = laws.paced;
-      opcode = laws.opcode;
-      carry = laws.carry;
-      returning = laws.returning;
-      input = laws.input;
-      interrupts = laws.interrupts;
-    }
+pub returns-clause-carry : goal.returns-clause-carry
+returns-clause-carry g c h =
+    ap (λ (s : Registers). s.df) c.affect.ensures
+    ∙ df_law c.args.self.now.coming c.in_ok-cycle.cycle _ _ c.args.self.now.registers c.due.ensures.sized.opcode (sym c.due.ensures.value ∙ c.in_ok-cycle.was) h
