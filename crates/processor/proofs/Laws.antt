@@ -19,7 +19,7 @@ use Rattle.processor.specs.declared.state.Mode.TheVariants.{Run}
 use Rattle.registers.specs.declared.registers.Registers.{Registers}
 
 -- a second half changes neither the opcode nor DF
-ended_keeps : (o : Operand) (t : Bool) (m : ℕ) (s : Registers) → ((ended_by o t m s).opcode ≡ s.opcode) × ((ended_by o t m s).df ≡ s.df)
+ended_keeps : (o : Option Operand) (t : Bool) (m : ℕ) (s : Registers) → ((ended_by o t m s).opcode ≡ s.opcode) × ((ended_by o t m s).df ≡ s.df)
 ended_keeps o t m s = grind arith
 
 -- only a fetch changes the opcode

@@ -2,8 +2,8 @@
 use board::script::Script;
 use board::signals::{Announcement, CycleName, Direction, Record, Show};
 use isa::operands::Register;
-use memory::meaning::Memory;
 use memory::bytes::Ram;
+use memory::meaning::Memory;
 use processor::state::{Mode, Processor};
 use std::alloc::{AllocError, Global};
 
