@@ -31,7 +31,7 @@ pub fn execute_access(instruction: Instruction, registers: &Registers, bus: u8, 
         Instruction::Br | Instruction::Bq | Instruction::Bz | Instruction::Bdf |
         Instruction::B1 | Instruction::B2 | Instruction::B3 | Instruction::B4 |
         Instruction::Bnq | Instruction::Bnz | Instruction::Bnf |
-        Instruction::Bn1 | Instruction::Bn2 | Instruction::Bn3 | Instruction::Bn4 |
+        Instruction::Bn1 | Instruction::Bn2 | Instruction::Bn3 | Instruction::Bn4 => operand_if(registers, taken)?,
         Instruction::Lbr | Instruction::Lbq | Instruction::Lbz | Instruction::Lbdf |
         Instruction::Lbnq | Instruction::Lbnz | Instruction::Lbnf => operand_if(registers, taken)?,
         Instruction::Str(n) => Access::Writes(registers.reg(n), registers.d),
@@ -40,7 +40,7 @@ pub fn execute_access(instruction: Instruction, registers: &Registers, bus: u8, 
         Instruction::Sav => Access::Writes(registers.r_x(), registers.t),
         Instruction::Mark => Access::Writes(registers.reg(Register::R2), registers.xp()),
         Instruction::Inc(_) | Instruction::Dec(_) | Instruction::Irx | Instruction::Glo(_) | Instruction::Ghi(_) |
-        Instruction::Plo(_) | Instruction::Phi(_) | Instruction::Sep(_) | Instruction::Sex(_) |
+        Instruction::Plo(_) | Instruction::Phi(_) | Instruction::Sep(_) | Instruction::Sex(_) => return None,
         Instruction::Shr | Instruction::Shrc | Instruction::Shl | Instruction::Shlc | Instruction::Req |
         Instruction::Seq | Instruction::Skp | Instruction::Nop |
         Instruction::Lsnq | Instruction::Lsnz | Instruction::Lsnf | Instruction::Lskp |

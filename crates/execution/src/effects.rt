@@ -1,7 +1,7 @@
 // What an execute cycle does to the registers.
 ghost use Rattle.std.specs.Prelude.{◌≡◌};
 ghost use Rattle.execution.specs.Effects.{branched, executed, long_begun, long_ended, past_operand, returned, second_executed, skipped};
-ghost use Rattle.registers.specs.Registers.{set_pair};
+ghost use Rattle.registers.specs.Registers.{set_d, set_pair};
 
 use alu::arithmetic::{add, subtract};
 use alu::logic::{and, or, xor};
@@ -16,8 +16,7 @@ use registers::registers::Registers;
 pub fn execute(instruction: Instruction, registers: &mut Registers, taken: bool, byte: u8)
     ensures { registers.new ≡ executed instruction taken byte registers.old }
 {
-    let d = registers.d;
-    let df = registers.df;
+    let Registers { d, df, .. } = *registers;
     let target = taken.then_some(byte);
     match instruction {
         Instruction::Idl | Instruction::Str(_) | Instruction::Sav | Instruction::Nop => {}
@@ -33,23 +32,17 @@ pub fn execute(instruction: Instruction, registers: &mut Registers, taken: bool,
         Instruction::Ghi(n) => [registers.d, _] = registers.reg(n).to_be_bytes(),
         Instruction::Plo(n) => registers.set_low(n, d), Instruction::Phi(n) => registers.set_high(n, d),
         Instruction::Sep(n) => registers.p = n, Instruction::Sex(n) => registers.x = n,
-        Instruction::Or => registers.d = or(byte, d), Instruction::And => registers.d = and(byte, d),
-        Instruction::Xor => registers.d = xor(byte, d),
+        Instruction::Or => registers.d = or(byte, d), Instruction::And => registers.d = and(byte, d), Instruction::Xor => registers.d = xor(byte, d),
         Instruction::Add => set_pair(registers, add(byte, d, false)), Instruction::Adc => set_pair(registers, add(byte, d, df)),
         Instruction::Sd => set_pair(registers, subtract(byte, d, true)), Instruction::Sdb => set_pair(registers, subtract(byte, d, df)),
         Instruction::Sm => set_pair(registers, subtract(d, byte, true)), Instruction::Smb => set_pair(registers, subtract(d, byte, df)),
         Instruction::Shr => set_pair(registers, shift_right(d, false)), Instruction::Shrc => set_pair(registers, shift_right(d, df)),
         Instruction::Shl => set_pair(registers, shift_left(d, false)), Instruction::Shlc => set_pair(registers, shift_left(d, df)),
-        Instruction::Ldi => { registers.d = byte; past_operand(registers); }
-        Instruction::Ori => { registers.d = or(byte, d); past_operand(registers); }
-        Instruction::Ani => { registers.d = and(byte, d); past_operand(registers); }
-        Instruction::Xri => { registers.d = xor(byte, d); past_operand(registers); }
-        Instruction::Adi => { set_pair(registers, add(byte, d, false)); past_operand(registers); }
-        Instruction::Adci => { set_pair(registers, add(byte, d, df)); past_operand(registers); }
-        Instruction::Sdi => { set_pair(registers, subtract(byte, d, true)); past_operand(registers); }
-        Instruction::Sdbi => { set_pair(registers, subtract(byte, d, df)); past_operand(registers); }
-        Instruction::Smi => { set_pair(registers, subtract(d, byte, true)); past_operand(registers); }
-        Instruction::Smbi => { set_pair(registers, subtract(d, byte, df)); past_operand(registers); }
+        Instruction::Ldi => immediate(registers, byte), Instruction::Ori => immediate(registers, or(byte, d)),
+        Instruction::Ani => immediate(registers, and(byte, d)), Instruction::Xri => immediate(registers, xor(byte, d)),
+        Instruction::Adi => immediate_pair(registers, add(byte, d, false)), Instruction::Adci => immediate_pair(registers, add(byte, d, df)),
+        Instruction::Sdi => immediate_pair(registers, subtract(byte, d, true)), Instruction::Sdbi => immediate_pair(registers, subtract(byte, d, df)),
+        Instruction::Smi => immediate_pair(registers, subtract(d, byte, true)), Instruction::Smbi => immediate_pair(registers, subtract(d, byte, df)),
         Instruction::Br | Instruction::Bq | Instruction::Bz | Instruction::Bdf | Instruction::B1 | Instruction::B2 | Instruction::B3 |
         Instruction::B4 | Instruction::Bnq | Instruction::Bnz | Instruction::Bnf | Instruction::Bn1 | Instruction::Bn2 |
         Instruction::Bn3 | Instruction::Bn4 => branch(registers, target), Instruction::Skp => past_operand(registers),
@@ -75,6 +68,21 @@ fn set_pair(registers: &mut Registers, pair: (u8, bool))
     ensures { registers.new ≡ set_pair pair.0 pair.1 registers.old }
 {
     (registers.d, registers.df) = pair;
+}
+
+// A byte → D, and past the operand that gave it; the same with a carry.
+fn immediate(registers: &mut Registers, d: u8)
+    ensures { registers.new ≡ past_operand (set_d d registers.old) }
+{
+    registers.d = d;
+    past_operand(registers);
+}
+
+fn immediate_pair(registers: &mut Registers, pair: (u8, bool))
+    ensures { registers.new ≡ past_operand (set_pair pair.0 pair.1 registers.old) }
+{
+    set_pair(registers, pair);
+    past_operand(registers);
 }
 
 // R(P)+1.

@@ -13,7 +13,7 @@ use Rattle.isa.specs.declared.operands.Operand.{Operand}
 use Rattle.processor.specs.Cycles.{affected, comes_next, due_at}
 use Rattle.processor.specs.Laws.{alters_df, left_after, left_at}
 use Rattle.processor.specs.declared.state.Cycle.{Cycle}
-use Rattle.processor.specs.declared.state.Cycle.TheVariants.{Initialise, Fetch, Execute}
+use Rattle.processor.specs.declared.state.Cycle.TheVariants.{Fetch, Execute}
 use Rattle.processor.specs.declared.state.Mode.{Mode}
 use Rattle.processor.specs.declared.state.Mode.TheVariants.{Run}
 use Rattle.registers.specs.declared.registers.Registers.{Registers}
@@ -47,13 +47,9 @@ pub df_law : (o : Option CycleName) (c : Cycle) (t : Bool) (m : ℕ) (s : Regist
 df_law o c t m s b e h = df_kept c t m s (due_alters o s.opcode c b e h)
 
 -- the lines lead to an interrupt in run alone, where it may come
-interrupted : (c : Cycle) (mode : Mode) (s : Registers) (shown : Show) → comes_next c mode s shown ≡ Some name.Interrupt
-    → (mode ≡ Run) × (s.ie ≡ true) × (c ≢ Initialise)
-interrupted c mode s shown h = grind arith
-
 pub interrupts_law : (o : Option CycleName) (op : ℕ) (c : Cycle) (mode : Mode) (s : Registers) (shown : Show) → due_at o op ≡ Some c
     → comes_next c mode s shown ≡ Some name.Interrupt → (mode ≡ Run) × (s.ie ≡ true) × (o ≢ Some name.Initialise)
-interrupts_law o op c mode s shown e h = grind (arith, interrupted)
+interrupts_law o op c mode s shown e h = grind arith
 
 -- how many cycles of its instruction come after a cycle
 abbrev left_by : Cycle → ℕ → ℕ
