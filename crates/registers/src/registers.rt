@@ -1,6 +1,6 @@
 // The processor's registers.
 ghost use Rattle.std.specs.Prelude.{◌≡◌, ◌<◌};
-ghost use Rattle.registers.specs.Registers.{class_i, digit_n, fresh};
+ghost use Rattle.registers.specs.Registers.{Sized, class_i, digit_n, fresh};
 
 use isa::digit::Digit;
 use isa::operands::Register;
@@ -55,5 +55,14 @@ impl Registers {
         ensures { result ≡ digit_n self.now }
     {
         Digit::low(self.opcode)
+    }
+
+    // There are sixteen R registers, and D, T, B and the opcode are bytes. A proof learns that of registers that it looks
+    // into; at run time nothing is left of it. A ghost field would say it too, but then no definition could write registers
+    // down.
+    pub fn sized(&self)
+        ensures { Sized self.now }
+    {
+        let _first = self.r[0];
     }
 }
