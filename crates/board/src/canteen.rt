@@ -6,7 +6,7 @@ use crate::meaning::Board;
 use crate::signals::{Announcement, Direction, Record, Show};
 
 // How long a card write takes: 5 ms or 40 ms at 6.4 MHz.
-#[derive(Debug, Clone, Copy, PartialEq, Eq)]
+#[derive(Clone, Copy, Debug, PartialEq, Eq)]
 pub enum Delay {
     Five,
     Forty,
@@ -24,7 +24,7 @@ impl Delay {
     }
 }
 
-#[derive(Debug, Clone, Copy, PartialEq, Eq)]
+#[derive(Clone, Copy, Debug, PartialEq, Eq)]
 pub struct Canteen {
     pub(crate) key: u8,
     pub(crate) delay: Delay,

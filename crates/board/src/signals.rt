@@ -3,7 +3,7 @@ ghost use Rattle.std.specs.Prelude.{◌≡◌};
 ghost use Rattle.board.specs.Signals.{state_code, silent};
 
 // The eight kinds of machine cycle.
-#[derive(Debug, Clone, Copy, PartialEq, Eq)]
+#[derive(Clone, Copy, Debug, PartialEq, Eq)]
 pub enum CycleName {
     Initialise,
     Fetch,
@@ -33,7 +33,7 @@ impl CycleName {
 }
 
 // What the station announces before a cycle. The N lines are 0 but in the execute of class 6.
-#[derive(Debug, Clone, Copy, PartialEq, Eq)]
+#[derive(Clone, Copy, Debug, PartialEq, Eq)]
 pub struct Announcement {
     pub name: CycleName,
     // the N lines
@@ -43,7 +43,7 @@ pub struct Announcement {
 }
 
 // What the board shows in a cycle: the flags EF1 to EF4, the three request lines, and a byte on the bus.
-#[derive(Debug, Clone, Copy, PartialEq, Eq)]
+#[derive(Clone, Copy, Debug, PartialEq, Eq)]
 pub struct Show {
     pub ef1: bool,
     pub ef2: bool,
@@ -74,7 +74,7 @@ impl Show {
 }
 
 // Whether a cycle read a byte of memory, wrote one, or used none.
-#[derive(Debug, Clone, Copy, PartialEq, Eq)]
+#[derive(Clone, Copy, Debug, PartialEq, Eq)]
 pub enum Direction {
     Read,
     Write,
@@ -82,7 +82,7 @@ pub enum Direction {
 }
 
 // What the board is told after a cycle. A cycle that uses no byte has the address 0000 and the byte FF.
-#[derive(Debug, Clone, Copy, PartialEq, Eq)]
+#[derive(Clone, Copy, Debug, PartialEq, Eq)]
 pub struct Record {
     pub announcement: Announcement,
     pub direction: Direction,

@@ -3,6 +3,8 @@ ghost use Rattle.std.specs.Prelude.{◌≡◌, ◌≤◌, map, slice_index};
 ghost use Rattle.std.specs.List.{range_with_len};
 ghost use Rattle.isa.specs.Table.{packed, entry_of};
 
+use crate::digit::Digit;
+
 // An opcode's bytes, operand included, and its machine cycles, the fetch included.
 #[repr(C)]
 #[derive(Clone, Copy, Debug, PartialEq, Eq)]
@@ -54,8 +56,8 @@ impl Entry {
     {
         let number = packed_entry(opcode);
         Entry {
-            length: number % 16,
-            cycles: number / 16,
+            length: u8::from(Digit::low(number)),
+            cycles: u8::from(Digit::high(number)),
         }
     }
 }

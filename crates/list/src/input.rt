@@ -5,7 +5,7 @@ use std::error::Error;
 use std::fmt;
 
 // The input has more bytes than there are addresses.
-#[derive(Clone, Copy, Debug)]
+#[derive(Clone, Copy, Debug, PartialEq, Eq)]
 pub struct TooLong;
 
 impl fmt::Display for TooLong {

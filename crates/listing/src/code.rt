@@ -6,7 +6,7 @@ ghost use Rattle.listing.specs.Code.{TakesFirst};
 use crate::groups::{Group, first_group};
 
 // A group with its address.
-#[derive(Clone, Copy)]
+#[derive(Clone, Copy, Debug, PartialEq, Eq)]
 pub struct Placed<'a> {
     pub address: u16,
     pub group: Group<'a>,

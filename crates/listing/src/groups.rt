@@ -7,7 +7,7 @@ use isa::operands::Operand;
 use isa::table::Entry;
 
 // Each case holds its part of the code.
-#[derive(Clone, Copy)]
+#[derive(Clone, Copy, Debug, PartialEq, Eq)]
 pub enum Group<'a> {
     OneByte(Instruction, &'a [u8]),
     Immediate(Instruction, &'a [u8]),

@@ -15,7 +15,7 @@ pub struct Processor {
 }
 
 // A cycle that is due; an execute has its instruction with it.
-#[derive(Clone, Copy)]
+#[derive(Clone, Copy, Debug, PartialEq, Eq)]
 pub enum Cycle {
     Initialise,
     Fetch,

@@ -11,7 +11,7 @@ pub enum Verdict {
 }
 
 // How many opcodes were tried, and how many came out in each way.
-#[derive(Clone, Copy)]
+#[derive(Clone, Copy, Debug, PartialEq, Eq)]
 pub struct Tally {
     pub tried: u32,
     pub named: u32,
