@@ -1,4 +1,5 @@
-// Sums and differences of bytes. Each answers the byte and the carry together, which go to D and DF.
+// Sums and differences of bytes. Each answers the byte and the carry together, which go to D and DF: by the station's rules a
+// pair, in which both always count.
 ghost use Rattle.std.specs.Prelude.{◌≡◌, ◌+◌, ◌*◌};
 ghost use Rattle.std.specs.Int.{from_bool};
 ghost use Rattle.alu.specs.Arithmetic.{sum, carry, difference, not_below, Exactly, Sign};

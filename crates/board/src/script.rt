@@ -5,6 +5,7 @@ ghost use Rattle.board.specs.Script.{codes_of, moved_in, position_of, shown_in};
 use crate::meaning::Board;
 use crate::signals::{Announcement, Record, Show};
 
+// The place in the list is kept beside it, since the whole list is handed back.
 #[derive(Drop)]
 pub struct Script {
     shows: Vec<Show>,

@@ -16,7 +16,7 @@ pub enum CycleName {
 }
 
 impl CycleName {
-    // The state code that the processor puts out in such a cycle.
+    // The state code that the processor puts out in such a cycle: a number, as it is one on the wire.
     pub fn state_code(self) -> u8
         ensures { result ≡ state_code self }
     {
@@ -73,7 +73,8 @@ impl Show {
     }
 }
 
-// Whether a cycle read a byte of memory, wrote one, or used none.
+// Whether a cycle read a byte of memory, wrote one, or used none. By the station's rules a board is told all three alike, so
+// this is no Option.
 #[derive(Clone, Copy, Debug, PartialEq, Eq)]
 pub enum Direction {
     Read,

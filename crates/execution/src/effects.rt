@@ -11,7 +11,8 @@ use isa::operands::{Operand, Register};
 use registers::registers::Registers;
 
 // The execute of an instruction, or its first one: `taken` says whether a branch or a skip is taken, and the byte is the one
-// that the cycle read or wrote.
+// that the cycle read or wrote. They are two parameters: a skip goes by the one alone, most instructions by the other.
+// The ten immediates have arms of their own; to see that an instruction is one would take a second match.
 #[rattlefmt::skip]
 pub fn execute(instruction: Instruction, registers: &mut Registers, taken: bool, byte: u8)
     ensures { registers.new ≡ executed instruction taken byte registers.old }

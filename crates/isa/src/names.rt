@@ -15,7 +15,8 @@ impl Instruction {
         self.coded()
     }
 
-    // The opcode's column of Appendix A; the law above is shown once for all its rows.
+    // The opcode's column of Appendix A; the law above is shown once for all its rows, as the search did not find it at the rows
+    // with a register.
     #[rattlefmt::skip]
     fn coded(self) -> u8
         ensures { result ≡ (appendix_a self).opcode }

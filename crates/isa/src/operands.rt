@@ -26,7 +26,7 @@ pub enum Register {
 }
 
 impl Register {
-    // The register that the low digit of a byte names.
+    // The register that the low digit of a byte names. A match: read from a table of the sixteen it made a cycle a fifth longer.
     pub fn of(byte: u8) -> Register
         ensures { result ≡ register_of (byte % 16) }
     {
@@ -50,7 +50,7 @@ impl Register {
         }
     }
 
-    // The register's number, as the low digit of an opcode has it.
+    // The register's number, as the low digit of an opcode has it. An enum's number is had by `as` alone.
     pub fn digit(self) -> Digit
         ensures { result ≡ digit_of self }
     {

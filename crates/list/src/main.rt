@@ -9,7 +9,8 @@ use std::process::ExitCode;
 
 mod input;
 
-// The error is told here, under the program's name, and not by the runtime once more.
+// The error is told here, under the program's name, and not by the runtime once more. `witness` ends alike; a crate for these
+// lines would be longer than both.
 fn main(rt: HostRuntime) -> ExitCode {
     let Err(error) = run(&rt) else {
         return ExitCode::SUCCESS;

@@ -8,7 +8,7 @@ use crate::code::Code;
 use crate::lines::{Listed, Refusal, list_line};
 use isa::table::Entry;
 
-// What C is told of a line: the refusal's number, or 0, and the lengths of line and group.
+// What C is told of a line: the refusal's number, or 0, and the lengths of line and group. C has no Result.
 #[repr(C)]
 #[derive(Clone, Copy, Debug, PartialEq, Eq)]
 pub struct LineAnswer {

@@ -43,6 +43,7 @@ impl<'a> Iterator for Code<'a> {
             address: self.address,
             group,
         };
+        // at most 3, so that `as` loses nothing
         let size = group.bytes().len();
         self.address = self.address.wrapping_add(size as u16);
         self.bytes = &self.bytes[size..];

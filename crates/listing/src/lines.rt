@@ -22,7 +22,7 @@ pub enum Refusal {
 }
 
 impl Refusal {
-    // The number that the host is given.
+    // The number that the host is given, by the station's rules.
     pub fn number(self) -> u8
         ensures { result ≡ number_of self }
     {
@@ -68,6 +68,7 @@ fn write_first(mut code: Code<'_>, buffer: &mut [u8]) -> Listed
     };
     let line = Line::of(placed);
     put_line(buffer, &line);
+    // both are proved to be small: `try_from` would bring a refusal that never comes
     Listed {
         line: line.text().len() as u8,
         group: placed.group.bytes().len() as u8,

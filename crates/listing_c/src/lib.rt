@@ -1,4 +1,5 @@
-// The static library for the terminal's C firmware: the functions of `listing::c` under their C names.
+// The static library for the terminal's C firmware: the functions of `listing::c` under their C names. They stand twice since a
+// crate is a library for others or a static one, and not both.
 // include/station_listing.h says the same to a C programmer.
 #![tactic(auto)]
 

@@ -12,7 +12,7 @@ use memory::meaning::Memory;
 impl Processor {
     // Runs the cycle that is due, and answers its record; where none is due, as the processor is stopped, nothing changes and
     // there is none. In order: announce and show, see what is taken, choose the access, make it, apply the effect, see what
-    // comes next, tell the record.
+    // comes next, tell the record. Mode, memory and board are lent to each call, so no struct holds them.
     #[tactic(auto, using(crate::proofs::Laws::laws))]
     pub fn cycle<M: Memory, B: Board>(
         &mut self,

@@ -11,6 +11,8 @@ use execution::effects::{execute, second_execute};
 use isa::operands::Register;
 use registers::registers::Registers;
 
+// Each step is a match over the kinds of cycle: they are eight for good, and closures for them would be the same lines with a
+// call more.
 impl Cycle {
     // The cycle's name, as the board is told it.
     pub fn name(self) -> CycleName

@@ -6,7 +6,8 @@ use board::signals::Direction;
 use execution::access::Access;
 use memory::meaning::Memory;
 
-// Which way the byte went, where, and the byte. A cycle that uses none has the address 0000 and the byte FF.
+// Which way the byte went, where, and the byte. A cycle that uses none has the address 0000 and the byte FF, as a board is told
+// so.
 #[derive(Clone, Copy, Debug, PartialEq, Eq)]
 pub struct Transfer {
     pub direction: Direction,
