@@ -36,7 +36,7 @@ impl CycleName {
 #[derive(Clone, Copy, Debug, PartialEq, Eq)]
 pub struct Announcement {
     pub name: CycleName,
-    // the N lines
+    // the N lines; with none it is 0, as on the wires
     pub lines: u8,
     // Q before the cycle
     pub q: bool,

@@ -14,7 +14,8 @@ pub enum Access {
 }
 
 // The access of an instruction's execute, or of its first one, if it uses a byte: `bus` is the one that the board shows,
-// `taken` says whether a branch or a skip is taken.
+// `taken` says whether a branch or a skip is taken. Arms that answer the same have at most sixteen alternatives each: with more
+// the search comes close to its limits.
 #[rattlefmt::skip]
 pub fn execute_access(instruction: Instruction, registers: &Registers, bus: u8, taken: bool) -> Option<Access>
     ensures { result ≡ execute_access instruction registers.now bus taken }

@@ -6,6 +6,7 @@ ghost use Rattle.registers.specs.Registers.{set_d, set_pair};
 use alu::arithmetic::{add, subtract};
 use alu::logic::{and, or, xor};
 use alu::shifts::{shift_left, shift_right};
+use isa::digit::Digit;
 use isa::instructions::Instruction;
 use isa::operands::{Operand, Register};
 use registers::registers::Registers;
@@ -94,12 +95,13 @@ fn past_operand(registers: &mut Registers)
 }
 
 // RET and DIS: the register of the old X is stepped.
+#[tactic(auto, using(crate::proofs::Digits::high_alone))]
 fn return_to(registers: &mut Registers, byte: u8, ie: bool)
     ensures { registers.new ≡ returned ie byte registers.old }
 {
     registers.up(registers.x);
-    registers.x = Register::of(byte / 16);
-    registers.p = Register::of(byte);
+    registers.x = Register::from(Digit::high(byte));
+    registers.p = Register::from(Digit::low(byte));
     registers.ie = ie;
 }
 

@@ -91,6 +91,7 @@ pub enum Instruction {
 }
 
 // The instruction of an opcode; 68 has none.
+#[tactic(auto, using(crate::proofs::Decoding::in_appendix_a, crate::proofs::Decoding::as_long_as_table))]
 pub fn decode(opcode: u8) -> Option<Instruction>
     ensures value { result ≡ decoded opcode }
     ensures row { InAppendixA opcode result }
@@ -104,8 +105,8 @@ pub fn decode(opcode: u8) -> Option<Instruction>
 fn by_class(opcode: u8) -> Option<Instruction>
     ensures { result ≡ decoded opcode }
 {
-    let register = Register::of(opcode);
     let low = Digit::low(opcode);
+    let register = Register::from(low);
     Some(match u8::from(Digit::high(opcode)) {
         0x0 if u8::from(low) == 0 => Instruction::Idl,
         0x0 => Instruction::Ldn(register),

@@ -1,5 +1,5 @@
 // What an instruction takes: one of sixteen registers, one of seven ports, or bytes that follow its opcode.
-ghost use Rattle.std.specs.Prelude.{◌≡◌, ◌%◌, ◌<◌};
+ghost use Rattle.std.specs.Prelude.{◌≡◌, ◌<◌};
 ghost use Rattle.isa.specs.Operands.{digit_of, register_of, number_of};
 
 use crate::digit::Digit;
@@ -25,12 +25,12 @@ pub enum Register {
     RF,
 }
 
-impl Register {
-    // The register that the low digit of a byte names. A match: read from a table of the sixteen it made a cycle a fifth longer.
-    pub fn of(byte: u8) -> Register
-        ensures { result ≡ register_of (byte % 16) }
-    {
-        match byte % 16 {
+// The register that a digit names. A match: read from a table of the sixteen it made a cycle a fifth longer.
+impl From<Digit> for Register {
+    ghost from_gives = { λ digit register. register ≡ register_of digit };
+
+    fn from(digit: Digit) -> Register {
+        match u8::from(digit) {
             0x0 => Register::R0,
             0x1 => Register::R1,
             0x2 => Register::R2,
@@ -49,7 +49,9 @@ impl Register {
             _ => Register::RF,
         }
     }
+}
 
+impl Register {
     // The register's number, as the low digit of an opcode has it. An enum's number is had by `as` alone.
     pub fn digit(self) -> Digit
         ensures { result ≡ digit_of self }

@@ -13,7 +13,8 @@ pub struct Entry {
     pub cycles: u8,
 }
 
-// Cycles in the high digit, length in the low one; sixteen opcodes to a line.
+// Cycles in the high digit, length in the low one; sixteen opcodes to a line. The station's rules ask for one table of packed
+// numbers.
 #[rattlefmt::skip]
 const TABLE: [u8; 256] = [
     0x21, 0x21, 0x21, 0x21, 0x21, 0x21, 0x21, 0x21, 0x21, 0x21, 0x21, 0x21, 0x21, 0x21, 0x21, 0x21,
@@ -34,7 +35,8 @@ const TABLE: [u8; 256] = [
     0x21, 0x21, 0x21, 0x21, 0x21, 0x21, 0x21, 0x21, 0x22, 0x22, 0x22, 0x22, 0x22, 0x22, 0x21, 0x22,
 ];
 
-// What stands in the table at an opcode: the whole table is its rule at 00, 01 and so on to FF.
+// What stands in the table at an opcode: the whole table is its rule at 00, 01 and so on to FF. Apart from the next function,
+// so that a wrong table is refused here and not in a proof file.
 fn at_place(opcode: u8) -> u8
     ensures { result ≡ slice_index (map packed (range_with_len 0 256)) opcode }
 {

@@ -1,23 +1,12 @@
 // What the program takes from standard input.
 ghost use Rattle.std.specs.Prelude.{◌≡◌, ◌<◌, ◌≤◌, length, MatchResult};
 
-use std::error::Error;
-use std::fmt;
+use thiserror::Error;
 
 // The input has more bytes than there are addresses.
-#[derive(Clone, Copy, Debug, PartialEq, Eq)]
+#[derive(Clone, Copy, Debug, PartialEq, Eq, Error)]
+#[error("more than 65536 bytes on standard input: a program has at most 65536, one for each address")]
 pub struct TooLong;
-
-impl fmt::Display for TooLong {
-    fn fmt<W: fmt::Write>(&self, f: &mut fmt::Formatter<W>) -> fmt::Result {
-        write!(
-            f,
-            "more than 65536 bytes on standard input: a program has at most 65536, one for each address"
-        )
-    }
-}
-
-impl Error for TooLong {}
 
 // The program's bytes: all of the input, or a refusal where it has more than 65,536.
 pub fn program_of(input: &[u8]) -> Result<&[u8], TooLong>

@@ -11,7 +11,7 @@ use Rattle.isa.specs.Table.{length_of}
 use Rattle.listing.specs.declared.groups.Group.{Group}
 use Rattle.listing.specs.declared.groups.Group.TheVariants.{OneByte, Immediate, ShortBranch, LongBranch, Byte}
 
--- what a group says: the number of its case, its instruction where it has one, and its bytes
+-- what a group says: the number of its case, as the station's rules number them, its instruction where it has one, and its bytes
 pub record Said : Type 0 where
   pub kind : ℕ
   pub instruction : Option Instruction

@@ -3,4 +3,3 @@ pub mod Text
 pub mod Code
 pub mod Lines
 pub mod Program
-pub mod ForC

@@ -6,7 +6,7 @@ use isa::instructions::{Instruction, decode};
 use isa::operands::Operand;
 use isa::table::Entry;
 
-// Each case holds its part of the code.
+// Each case holds its part of the code; the station's rules name these five.
 #[derive(Clone, Copy, Debug, PartialEq, Eq)]
 pub enum Group<'a> {
     OneByte(Instruction, &'a [u8]),
@@ -60,7 +60,8 @@ pub fn first_group(code: &[u8]) -> Option<Group<'_>>
     }
 }
 
-// The first one, two or three bytes of the code, or none where they are cut off.
+// The first one, two or three bytes of the code, or none where they are cut off: by slice patterns, as the station's rules
+// have it.
 fn whole_bytes(length: u8, code: &[u8]) -> Option<&[u8]>
     requires { (1 ≤ length) × (length ≤ 3) }
     ensures { Front result length code.now }

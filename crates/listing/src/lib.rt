@@ -4,7 +4,6 @@
 // buffer, `program` lists a whole program, and `c` has the functions for the terminal's C firmware.
 #![tactic(auto)]
 
-pub mod c;
 pub mod code;
 pub mod groups;
 pub mod line;

@@ -1,29 +1,32 @@
-// The static library for the terminal's C firmware: the functions of `listing::c` under their C names. They stand twice since a
-// crate is a library for others or a static one, and not both.
+// The static library for the terminal's C firmware: two functions of the listing under their C names.
 // include/station_listing.h says the same to a C programmer.
 #![tactic(auto)]
 
 ghost use Rattle.std.specs.Prelude.{◌≡◌};
 ghost use Rattle.isa.specs.Table.{entry_of};
-ghost use Rattle.listing.specs.ForC.{told};
 ghost use Rattle.listing.specs.Lines.{line_answer, line_buffer};
+ghost use Rattle.listing_c.specs.ForC.{told};
 
+use crate::answer::LineAnswer;
 use isa::table::Entry;
-use listing::c;
+use listing::code::Code;
+use listing::lines::list_line;
+
+mod answer;
 
 // The table's entry for an opcode.
 #[unsafe(no_mangle)]
 pub extern "C" fn station_opcode(opcode: u8) -> Entry
     ensures { result ≡ entry_of opcode }
 {
-    c::station_opcode(opcode)
+    Entry::of(opcode)
 }
 
 // Writes the line of the first group into the buffer, whose other bytes stay.
 #[unsafe(no_mangle)]
-pub extern "C" fn station_list_line(address: u16, code: &[u8], buffer: &mut [u8]) -> c::LineAnswer
+pub extern "C" fn station_list_line(address: u16, code: &[u8], buffer: &mut [u8]) -> LineAnswer
     ensures answer { told result ≡ line_answer address code.now buffer.old }
     ensures buffer { buffer.new ≡ line_buffer address code.now buffer.old }
 {
-    c::station_list_line(address, code, buffer)
+    LineAnswer::from(list_line(Code::at(address, code), buffer))
 }

@@ -30,7 +30,8 @@ impl Cycle {
         }
     }
 
-    // The N lines: N's low three bits in the execute of class 6, else 0.
+    // The N lines: N's low three bits in the execute of class 6, else 0. By I and N, and not by the instruction, as the station's
+    // rules say it; so too in `next`.
     fn lines(self, registers: &Registers) -> u8
         ensures { result ≡ lines_of self registers.now }
     {

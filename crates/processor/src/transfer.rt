@@ -7,7 +7,7 @@ use execution::access::Access;
 use memory::meaning::Memory;
 
 // Which way the byte went, where, and the byte. A cycle that uses none has the address 0000 and the byte FF, as a board is told
-// so.
+// so. A board's record has the three beside its announcement and Q, not one level down.
 #[derive(Clone, Copy, Debug, PartialEq, Eq)]
 pub struct Transfer {
     pub direction: Direction,

@@ -64,7 +64,7 @@ low_digit byte = register_of (byte % 16)
 
 -- a value → R(W)
 abbrev pub set_reg : Register → ℕ → Registers → Registers
-set_reg w v s = registers (set s.r (digit_of w) v) s.d s.t s.b s.df s.ie s.q s.x s.p s.opcode
+set_reg w v s = record s { r = set s.r (digit_of w) v }
 
 -- R(W)+1 and R(W)−1, between FFFF and 0000 too
 abbrev pub up : Register → Registers → Registers
@@ -82,30 +82,30 @@ set_high w byte s = set_reg w (byte * 256 + reg w s % 256) s
 
 -- a value → one of the other registers
 abbrev pub set_d : ℕ → Registers → Registers
-set_d v s = registers s.r v s.t s.b s.df s.ie s.q s.x s.p s.opcode
+set_d v s = record s { d = v }
 
 -- a byte and a carry → D and DF
 abbrev pub set_pair : ℕ → Bool → Registers → Registers
-set_pair v c s = registers s.r v s.t s.b c s.ie s.q s.x s.p s.opcode
+set_pair v c s = record s { d = v; df = c }
 
 abbrev pub set_t : ℕ → Registers → Registers
-set_t v s = registers s.r s.d v s.b s.df s.ie s.q s.x s.p s.opcode
+set_t v s = record s { t = v }
 
 abbrev pub set_b : ℕ → Registers → Registers
-set_b v s = registers s.r s.d s.t v s.df s.ie s.q s.x s.p s.opcode
+set_b v s = record s { b = v }
 
 abbrev pub set_ie : Bool → Registers → Registers
-set_ie v s = registers s.r s.d s.t s.b s.df v s.q s.x s.p s.opcode
+set_ie v s = record s { ie = v }
 
 abbrev pub set_q : Bool → Registers → Registers
-set_q v s = registers s.r s.d s.t s.b s.df s.ie v s.x s.p s.opcode
+set_q v s = record s { q = v }
 
 abbrev pub set_x : Register → Registers → Registers
-set_x v s = registers s.r s.d s.t s.b s.df s.ie s.q v s.p s.opcode
+set_x v s = record s { x = v }
 
 abbrev pub set_p : Register → Registers → Registers
-set_p v s = registers s.r s.d s.t s.b s.df s.ie s.q s.x v s.opcode
+set_p v s = record s { p = v }
 
 -- an opcode → I and N
 abbrev pub set_opcode : ℕ → Registers → Registers
-set_opcode v s = registers s.r s.d s.t s.b s.df s.ie s.q s.x s.p v
+set_opcode v s = record s { opcode = v }
