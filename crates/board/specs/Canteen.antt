@@ -82,6 +82,7 @@ told p [] = p
 told p (r ∷ rs) = told (moved_by p r) rs
 
 -- EF1 shows in just the next n cycles, whatever is told in them, and the card byte stays until then
+-- `unfoldable`, as a search would open it too soon
 unfoldable pub Waits : ℕ → List ℕ → Type 0
 Waits n p =
     (rs : List Record) (announced : Announcement) → length rs ≤ n

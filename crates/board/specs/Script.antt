@@ -35,6 +35,7 @@ first_show p = record {
 }
 
 -- the first show that is left, or silence, whatever is announced
+-- `unfoldable`, as a search would open it too soon
 unfoldable pub shown_in : List ℕ → Announcement → Show
 shown_in p announced = cond (nat_lt (length p) 8) silent (first_show p)
 

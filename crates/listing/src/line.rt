@@ -4,7 +4,7 @@ use std::io::Write;
 use std::marker::Model;
 
 // A line's bytes, of which there is room for 24; no line of a listing has more than 22. A contract sees what is written.
-#[derive(Drop)]
+#[derive(Clone, Debug, Drop)]
 pub struct Line {
     bytes: ArrayVec<u8, 24>,
 }
