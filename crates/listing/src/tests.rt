@@ -1,5 +1,6 @@
 // Lines whose text a site's programmer would write down.
 use crate::code::Code;
+use crate::line::Line;
 use crate::lines::{Refusal, list_line};
 use crate::program::list_program;
 use std::process::Abort;
@@ -53,5 +54,16 @@ fn a_buffer_of_23_bytes_is_refused(rt: HostRuntime) -> Result<(), Fail> {
     assert_eq!(rt; refused, Err(Refusal::ShortBuffer));
     assert_eq!(rt; Refusal::ShortBuffer.number(), 4);
     assert!(rt; buffer == [b'.'; 23]);
+    Ok(())
+}
+
+#[test]
+fn a_line_can_be_cloned(rt: HostRuntime) -> Result<(), Fail> {
+    let mut code = Code::at(0, &[0xf8, 0x0a]);
+    let Some(placed) = code.next() else {
+        return Err(Fail::new("two bytes have no group"));
+    };
+    let line = Line::of(placed).clone()?;
+    assert!(rt; line.text() == b"0000 F80A LDI 0A\n".as_slice());
     Ok(())
 }
