@@ -72,7 +72,7 @@ fn set_pair(registers: &mut Registers, pair: (u8, bool))
     (registers.d, registers.df) = pair;
 }
 
-// A byte → D, and past the operand that gave it; the same with a carry.
+// A byte → D, and past the operand that gave it; the same with a carry. Two functions, as the first leaves DF alone.
 fn immediate(registers: &mut Registers, d: u8)
     ensures { registers.new ≡ past_operand (set_d d registers.old) }
 {

@@ -7,7 +7,8 @@ use crate::line::Line;
 use std::error::Error;
 use std::fmt;
 
-// How many bytes the line and the group have, at most 22 and 3; both are 0 where there is no code.
+// How many bytes the line and the group have, at most 22 and 3; both are 0 where there is no code, as the station's rules
+// answer it.
 #[derive(Clone, Copy, Debug, PartialEq, Eq)]
 pub struct Listed {
     pub line: u8,

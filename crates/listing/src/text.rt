@@ -43,7 +43,8 @@ impl Line {
         self.put_hex(&address.to_be_bytes());
     }
 
-    // The operand of an instruction, behind a space; nothing where there is none.
+    // The operand of an instruction, behind a space; nothing where there is none. Not by the placed group: `put_name` has its
+    // bytes at hand.
     fn put_operand(&mut self, operand: Option<Operand>, address: u16, bytes: &[u8])
         ensures { Grew self.old (operand_text operand address bytes.now) self.new }
     {

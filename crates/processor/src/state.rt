@@ -14,7 +14,7 @@ pub struct Processor {
     pub coming: Option<CycleName>,
 }
 
-// A cycle that is due; an execute has its instruction with it.
+// A cycle that is due; an execute has its instruction with it, which its name alone has not.
 #[derive(Clone, Copy, Debug, PartialEq, Eq)]
 pub enum Cycle {
     Initialise,

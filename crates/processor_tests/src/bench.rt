@@ -119,9 +119,7 @@ pub(crate) fn read(name: CycleName, address: u16, byte: u8) -> Record {
 pub(crate) fn written(name: CycleName, address: u16, byte: u8) -> Record {
     Record {
         direction: Direction::Write,
-        address,
-        byte,
-        ..no_byte(name)
+        ..read(name, address, byte)
     }
 }
 

@@ -7,6 +7,7 @@ use std::alloc::{AllocError, Global};
 // What the outside says of an opcode. It calls an opcode that is no instruction 'illegal'.
 #[derive(Clone, Copy)]
 pub struct Outside<'a> {
+    // as they are written, since the line's are compared with them
     digits: &'a str,
     pub opcode: u8,
     name: &'a str,
