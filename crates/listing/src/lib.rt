@@ -1,7 +1,7 @@
 // The listing of a program: its bytes in groups, and a line of text for each group.
 //
 // `code` and `groups` part the bytes into groups, `line` and `text` write the line of one, `lines` puts it into a caller's
-// buffer, `program` lists a whole program, and `c` has the functions for the terminal's C firmware.
+// buffer, and `program` lists a whole program. The crate `listing_c` hands lines to the terminal's C firmware.
 #![tactic(auto)]
 
 pub mod code;
