@@ -23,7 +23,7 @@ ended_keeps : (o : Option Operand) (t : Bool) (m : ℕ) (s : Registers) → ((en
 ended_keeps o t m s = grind arith
 
 -- only a fetch changes the opcode
-opcode_kept : (c : Cycle) (t : Bool) (m : ℕ) (s : Registers) → c ≢ Fetch → (affected c t m s).opcode ≡ s.opcode
+pub opcode_kept : (c : Cycle) (t : Bool) (m : ℕ) (s : Registers) → c ≢ Fetch → (affected c t m s).opcode ≡ s.opcode
 opcode_kept c t m s h = grind (arith, ended_keeps)
 
 pub opcode_law : (o : Option CycleName) (c : Cycle) (t : Bool) (m : ℕ) (s : Registers) → due_at o s.opcode ≡ Some c
@@ -31,11 +31,11 @@ pub opcode_law : (o : Option CycleName) (c : Cycle) (t : Bool) (m : ℕ) (s : Re
 opcode_law o c t m s e h = grind (arith, opcode_kept)
 
 -- only the execute of an instruction of arithmetic or a shift alters DF
-abbrev alters : Cycle → Bool
+abbrev pub alters : Cycle → Bool
 alters (Execute i) = alters_df (appendix_a i).opcode
 alters _ = false
 
-df_kept : (c : Cycle) (t : Bool) (m : ℕ) (s : Registers) → alters c ≡ false → (affected c t m s).df ≡ s.df
+pub df_kept : (c : Cycle) (t : Bool) (m : ℕ) (s : Registers) → alters c ≡ false → (affected c t m s).df ≡ s.df
 df_kept c t m s h = grind (arith, ended_keeps)
 
 due_alters : (o : Option CycleName) (op : ℕ) (c : Cycle) → op < 256 → due_at o op ≡ Some c
