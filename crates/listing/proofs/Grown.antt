@@ -1,7 +1,7 @@
 -- Texts that grow on a line, one piece after another.
 -- Assumes nothing.
-use Rattle.std.proofs.Common.{◌≡◌, ℕ, zero, suc, ◌+◌, ◌-◌, ◌/◌, ◌%◌, ◌^◌, ◌<◌, ◌≤◌, min, List, [], ◌∷◌, ◌++◌, length, get_or, take, sym, refl, ap, ◌∙◌, subst, append_assoc, append-nil, arith}
-use Rattle.std.proofs.lemmas.List.{flat_map_more, take_all, take_min, take_more}
+use Rattle.std.proofs.Common.{◌≡◌, ℕ, zero, suc, ◌+◌, ◌-◌, ◌/◌, ◌%◌, ◌^◌, ◌<◌, ◌≤◌, min, List, [], ◌∷◌, ◌++◌, length, get_or, take, drop, replicate, set, sym, refl, ap, ◌∙◌, subst, append_assoc, append-nil, arith}
+use Rattle.std.proofs.lemmas.List.{drop-drop, drop-replicate, drop-set-lt, flat_map_more, length-set, take_all, take_min, take_more}
 use Rattle.std.proofs.Math.Seq.{take-append-add}
 use Rattle.std.specs.Int.{w16, to_be_bytes}
 use Rattle.std.specs.List.{flat_map}
@@ -37,6 +37,12 @@ grew_write text more after h is =
           ∙ sym (take-append-add text more (24 - length text)) ∙ ap (λ k. take k (text ++ more)) room;
     }
 
+-- a full line has room for nothing
+pub grew_full : (text more : List ℕ) → length text ≡ 24 → Grew text more text
+grew_full text more size =
+    let none : min (24 - length text) (length more) ≡ 0 = grind arith in
+    grew_write text more text (omega (arith, size)) (rw none (sym (append-nil text)))
+
 -- the two bytes of an address as its four digits
 pub address_digits : (address : ℕ) → address < 2 ^ 16 → hexes (to_be_bytes w16 address) ≡ hex4 address
 address_digits address h =
@@ -55,3 +61,19 @@ also_more piece bytes i h first second =
 pub all_pieces : (piece : ℕ → List ℕ) (bytes : List ℕ) (i : ℕ) {text after : List ℕ} → length bytes ≤ i
     → Grew text (flat_map piece (take i bytes)) after → Grew text (flat_map piece bytes) after
 all_pieces piece bytes i h g = spelt _ (ap (flat_map piece) (take_all i bytes h)) g
+
+-- bytes as they are, each a piece of its own
+pub joined_single : (bytes : List ℕ) → flat_map (λ b. b ∷ []) bytes ≡ bytes
+joined_single [] = refl
+joined_single (b ∷ bs) = ap (λ (xs : List ℕ). b ∷ xs) (joined_single bs)
+
+-- a line that is 0 behind some bytes is 0 behind one byte more
+pub zeros_left : (bytes : List ℕ) (n byte : ℕ) → n < 24 → length bytes ≡ 24 → replicate (24 - n) 0 ≡ drop n bytes
+    → (n + 1 ≤ 24) × (length (set bytes n byte) ≡ 24) × (replicate (24 - (n + 1)) 0 ≡ drop (n + 1) (set bytes n byte))
+zeros_left bytes n byte room size zeros =
+    let less : 24 - n - 1 ≡ 24 - (n + 1) = omega arith in (
+      omega (arith, room),
+      length-set bytes n byte ∙ size,
+      sym (drop-set-lt (n + 1) bytes n byte (omega arith) ∙ sym (drop-drop 1 n bytes) ∙ ap (drop 1) (sym zeros)
+          ∙ drop-replicate 1 (24 - n) 0 ∙ ap (λ k. replicate k 0) less),
+    )

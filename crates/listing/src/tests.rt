@@ -67,3 +67,16 @@ fn a_line_can_be_cloned(rt: HostRuntime) -> Result<(), Fail> {
     assert!(rt; line.text() == b"0000 F80A LDI 0A\n".as_slice());
     Ok(())
 }
+
+#[test]
+fn a_line_can_be_copied(rt: HostRuntime) -> Result<(), Fail> {
+    let mut code = Code::at(0, &[0xf8, 0x0a]);
+    let Some(placed) = code.next() else {
+        return Err(Fail::new("two bytes have no group"));
+    };
+    let line = Line::of(placed);
+    let copy = line;
+    assert!(rt; line.text() == copy.text());
+    assert!(rt; copy.text() == b"0000 F80A LDI 0A\n".as_slice());
+    Ok(())
+}
