@@ -3,3 +3,4 @@ pub mod Text
 pub mod Code
 pub mod Lines
 pub mod Program
+pub mod ForC
