@@ -1,7 +1,8 @@
 -- The shows that are left of a script, as numbers.
 -- Assumes nothing.
-use Rattle.std.proofs.Common.{◌≡◌, ℕ, Bool, true, false, eqb, ltb, zero, suc, List, [], ◌∷◌, ◌++◌, length, drop, get_or, ◌+◌, ◌<◌, refl, rules}
-use Rattle.std.proofs.lemmas.List.{drop_more}
+use Rattle.std.proofs.Common.{◌≡◌, ℕ, Bool, true, false, eqb, ltb, zero, suc, List, [], ◌∷◌, ◌++◌, length, drop, get_or, ◌+◌, ◌<◌, ◌≤◌, refl, inl, inr, arith, rules}
+use Rattle.std.proofs.lemmas.List.{drop_all, drop_more}
+use Rattle.std.proofs.lemmas.Bool.{cases_lt}
 use Rattle.std.specs.Int.{from_bool}
 use Rattle.board.specs.declared.signals.Announcement.{Announcement}
 use Rattle.board.specs.declared.signals.Show.{Show}
@@ -31,3 +32,15 @@ shown_left (s ∷ shows) (suc n) announced = shown_left shows n announced
 -- one place on, eight numbers fewer are left
 pub moved_left : (shows : List Show) (n : ℕ) → n < length shows → codes_of (drop (n + 1) shows) ≡ drop 8 (codes_of (drop n shows))
 moved_left shows n h = rw (drop_more shows n silent h) refl
+
+-- at the end none is left, however many fewer
+pub moved_none : (shows : List Show) (n : ℕ) → length shows ≤ n → codes_of (drop n shows) ≡ drop 8 (codes_of (drop n shows))
+moved_none shows n h = rw (drop_all n shows h) refl
+
+-- so too at every place
+pub moved_on : (shows : List Show) (n : ℕ) → codes_of (drop (n + 1) shows) ≡ drop 8 (codes_of (drop n shows))
+moved_on shows n =
+    elim (cases_lt n (length shows)) [
+      | inl h ↦ moved_left shows n h
+      | inr h ↦ rw (drop_all (n + 1) shows (omega arith)) (rw (drop_all n shows h) refl)
+    ]

@@ -1,6 +1,6 @@
 -- The script board's positions: the shows that are left, eight numbers to a show.
 -- Assumes nothing.
-use Rattle.std.specs.Prelude.{ℕ, cond, List, [], ◌∷◌, length, drop, vec_items, ◌==◌, nat_lt, slice_index}
+use Rattle.std.specs.Prelude.{◌≡◌, ℕ, ◌+◌, ◌<◌, ◌≤◌, cond, List, [], ◌∷◌, length, drop, vec_items, ◌==◌, nat_lt, slice_index}
 use Rattle.std.specs.Int.{from_bool}
 use Rattle.std.specs.List.{flat_map}
 use Rattle.board.specs.declared.script.Script.{Script}
@@ -20,6 +20,13 @@ codes_of = flat_map show_code
 
 abbrev pub position_of : Script → List ℕ
 position_of b = codes_of (drop b.next (vec_items b.shows))
+
+-- the same list, one place on unless it is at its end
+abbrev pub Advanced : Script → Script → Type 0
+Advanced before after =
+    (vec_items after.shows ≡ vec_items before.shows)
+    × (before.next < length (vec_items before.shows) → after.next ≡ before.next + 1)
+    × (length (vec_items before.shows) ≤ before.next → after.next ≡ before.next)
 
 -- the first eight numbers, as a show
 abbrev pub first_show : List ℕ → Show

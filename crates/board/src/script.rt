@@ -1,6 +1,6 @@
 // The script board: a list of shows, one for each cycle, and then silence.
 ghost use Rattle.std.specs.Prelude.{◌≡◌};
-ghost use Rattle.board.specs.Script.{codes_of, moved_in, position_of, shown_in};
+ghost use Rattle.board.specs.Script.{Advanced, codes_of, moved_in, position_of, shown_in};
 
 use crate::meaning::Board;
 use crate::signals::{Announcement, Record, Show};
@@ -43,10 +43,11 @@ impl Board for Script {
     }
 
     // One cycle on; at the end the board stays there. The list stays as it is.
-    #[tactic(auto, using(crate::proofs::Scripts::moved_left))]
+    #[tactic(auto, using(crate::proofs::Scripts::moved_on))]
     fn tell(&mut self, _record: Record)
         ensures moves { position_of self.new ≡ moved_in (position_of self.old) «_record» }
         ensures keeps { self.new.shows.items ≡ self.old.shows.items }
+        ensures advances { Advanced self.old self.new }
     {
         if self.next < self.shows.len() {
             self.next += 1;
