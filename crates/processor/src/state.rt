@@ -46,9 +46,8 @@ impl Processor {
     }
 
     // The cycle that is due, or none where the processor is stopped; an execute of 68, to which no cycle leads, is none too.
-    // The opcode is decoded here and nowhere else in a cycle. `sized` is what the types of the registers say. The registers are
-    // lent and not copied, and the answer stays in the machine's registers where this is part of `cycle`: both ways through
-    // memory made a cycle a fifth to a third longer.
+    // The opcode is decoded here and nowhere else in a cycle. `sized` is what the types of the registers say. The processor is
+    // lent, and this is part of `cycle`: a copy of it, with an answer that went through memory, made a cycle longer.
     #[inline(always)]
     pub fn due(&self) -> Option<Cycle>
         ensures value { result ≡ due self.now }
